@@ -1,0 +1,4 @@
+pub mod Operations
+pub mod Sizes
+pub mod Steps
+pub mod Words
