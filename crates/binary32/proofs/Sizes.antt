@@ -27,14 +27,14 @@ pow-pred e some = ap (λ n. 2 ^ n) (omega arith) ∙ pow-succ' 2 (e - 1)
 pub size-below : (m : ℕ) → size m < 2 ^ 23 * 2 ^ (m / 2 ^ 23)
 size-below m =
     elim (cases-eq (m / 2 ^ 23) 0) [
-      inl low ↦ rw (size-small m low, low) (omega arith)
-    | inr high ↦
-        let some : 0 < m / 2 ^ 23 = omega arith in
-        rw (size-large m some, pow-pred (m / 2 ^ 23) some)
-        (let p = 2 ^ (m / 2 ^ 23 - 1) in
-         let pos : 0 < p = pow-pos (m / 2 ^ 23 - 1) in
-         let scaled : (2 ^ 23 + m % 2 ^ 23) * p < (2 ^ 24) * p = mul-lt-mul-of-pos-right (omega arith) pos in
-         omega arith)
+      | inl low ↦ rw (size-small m low, low) (omega arith)
+      | inr high ↦
+          let some : 0 < m / 2 ^ 23 = omega arith in
+          rw (size-large m some, pow-pred (m / 2 ^ 23) some)
+          (let p = 2 ^ (m / 2 ^ 23 - 1) in
+          let pos : 0 < p = pow-pos (m / 2 ^ 23 - 1) in
+          let scaled : (2 ^ 23 + m % 2 ^ 23) * p < (2 ^ 24) * p = mul-lt-mul-of-pos-right (omega arith) pos in
+          omega arith)
     ]
 
 -- and from the power before
@@ -44,12 +44,12 @@ size-above m some = rw (size-large m some) (mul-le-mul-right (2 ^ (m / 2 ^ 23 - 
 rises-within : (m n : ℕ) → m / 2 ^ 23 ≡ n / 2 ^ 23 → m < n → size m < size n
 rises-within m n same less =
     elim (cases-eq (m / 2 ^ 23) 0) [
-      inl low ↦ let low' : n / 2 ^ 23 ≡ 0 = omega arith in rw (size-small m low, size-small n low') (omega arith)
-    | inr high ↦
-        let some : 0 < m / 2 ^ 23 = omega arith in
-        let some' : 0 < n / 2 ^ 23 = omega arith in
-        rw (size-large m some, size-large n some', same)
-        (mul-lt-mul-of-pos-right (omega arith) (pow-pos (n / 2 ^ 23 - 1)))
+      | inl low ↦ let low' : n / 2 ^ 23 ≡ 0 = omega arith in rw (size-small m low, size-small n low') (omega arith)
+      | inr high ↦
+          let some : 0 < m / 2 ^ 23 = omega arith in
+          let some' : 0 < n / 2 ^ 23 = omega arith in
+          rw (size-large m some, size-large n some', same)
+          (mul-lt-mul-of-pos-right (omega arith) (pow-pos (n / 2 ^ 23 - 1)))
     ]
 
 rises-across : (m n : ℕ) → m / 2 ^ 23 < n / 2 ^ 23 → size m < size n
@@ -61,7 +61,7 @@ rises-across m n apart =
 pub size-rises : (m n : ℕ) → m < n → size m < size n
 size-rises m n less =
     elim (cases-order (m / 2 ^ 23) (n / 2 ^ 23)) [
-      inl same ↦ rises-within m n same less
-    | inr (inl apart) ↦ rises-across m n apart
-    | inr (inr back) ↦ absurd (omega arith)
+      | inl same ↦ rises-within m n same less
+      | inr (inl apart) ↦ rises-across m n apart
+      | inr (inr back) ↦ absurd (omega arith)
     ]

@@ -18,7 +18,7 @@ module _ (k a : ℕ) (some : 0 < a) (fits : a < 2 ^ k) where
   lifted-below =
       let top = leading-top k a some fits in
       let whole : 2 ^ suc (top .0) * 2 ^ leadingZeros k a ≡ 2 ^ k =
-          sym (pow-add 2 (suc (top .0)) (leadingZeros k a)) ∙ ap (λ n. 2 ^ n) (omega (arith, top .1)) in
+      sym (pow-add 2 (suc (top .0)) (leadingZeros k a)) ∙ ap (λ n. 2 ^ n) (omega (arith, top .1)) in
       rw whole at (mul-lt-mul-of-pos-right (top .3) (pow-pos (leadingZeros k a)))
 
   -- and has the field's highest bit
@@ -27,6 +27,6 @@ module _ (k a : ℕ) (some : 0 < a) (fits : a < 2 ^ k) where
       let top = leading-top k a some fits in
       let z = leadingZeros k a in
       let whole : 2 ^ k ≡ 2 * (2 ^ top .0 * 2 ^ z) =
-          ap (λ n. 2 ^ n) (omega (arith, top .1)) ∙ pow-add 2 (suc (top .0)) z ∙ ap (λ n. n * 2 ^ z) (pow-succ' 2 (top .0)) ∙ mul-assoc 2 (2 ^ top .0) (2 ^ z) in
+      ap (λ n. 2 ^ n) (omega (arith, top .1)) ∙ pow-add 2 (suc (top .0)) z ∙ ap (λ n. n * 2 ^ z) (pow-succ' 2 (top .0)) ∙ mul-assoc 2 (2 ^ top .0) (2 ^ z) in
       let below : 2 ^ top .0 * 2 ^ z ≤ a * 2 ^ z = mul-le-mul-right (2 ^ z) (top .2) in
       omega arith

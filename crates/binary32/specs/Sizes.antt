@@ -11,3 +11,7 @@ size m = cond (eqb (m / 2 ^ 23) 0) (m % 2 ^ 23) ((2 ^ 23 + m % 2 ^ 23) * 2 ^ (m 
 -- The value of a word, counted from that of the negative infinity, which is as far below 0 as 2^128 is above.
 abbrev pub level : ℕ → ℕ
 level w = cond (signBit w) (2 ^ 277 - size (magnitudeOf w)) (2 ^ 277 + size (magnitudeOf w))
+
+-- The same order in fewer bits: magnitudes rise with their sizes.
+abbrev pub rankOf : ℕ → ℕ
+rankOf w = cond (signBit w) (2 ^ 31 - magnitudeOf w) (2 ^ 31 + magnitudeOf w)

@@ -49,9 +49,13 @@ fn normalized(fraction: u32) -> NormalForm
 impl Word {
     // The word that every NaN result is.
     pub const NAN: Word = Word { bits: 0x7fc0_0000 };
+
     pub const INFINITY: Word = Word { bits: 0x7f80_0000 };
+
     pub const ZERO: Word = Word { bits: 0 };
+
     pub const NEGATIVE_ZERO: Word = Word { bits: 0x8000_0000 };
+
     pub const ONE: Word = Word { bits: 0x3f80_0000 };
 
     // Bit 31.
