@@ -1,3 +1,5 @@
 pub mod Levels
+pub mod Normal
 pub mod Sizes
+pub mod Steps
 pub mod Zeros

@@ -1,3 +1,4 @@
+pub mod Normal
 pub mod Operations
 pub mod Sizes
 pub mod Steps
