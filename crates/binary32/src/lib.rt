@@ -5,8 +5,12 @@ mod step;
 mod word;
 
 pub use operation::Operation;
+pub use operation::OperationDebug;
+pub use operation::OperationPartialEq;
 pub use step::Exact;
 pub use step::Step;
 pub use word::Class;
 pub use word::NormalForm;
 pub use word::Word;
+pub use word::WordDebug;
+pub use word::WordPartialEq;

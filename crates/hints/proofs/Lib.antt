@@ -1,0 +1,5 @@
+pub mod Backed
+pub mod Lifts
+pub mod Principals
+pub mod Roots
+pub mod Settings

@@ -1,0 +1,5 @@
+pub mod Backs
+pub mod Refusals
+pub mod Scheme
+pub mod Settings
+pub mod Writer

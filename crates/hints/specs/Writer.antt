@@ -1,0 +1,57 @@
+-- What the writer gives.
+use Prim.Native.Nat.{ℕ, _+_, _-_, _*_, _/_, _%_, _^_}
+use mathlib.Core.Bool.{Bool, cond}
+use Rattle.std.specs.declared.option.Option.{Option}
+use Rattle.std.specs.declared.option.Option.the-variants.{Some, None}
+use Rattle.std.specs.declared.result.Result.{Result}
+use Rattle.std.specs.declared.result.Result.the-variants.{Ok, Err}
+use Rattle.binary32.specs.Words.{composed}
+use Rattle.binary32.specs.Operations.{operationOf}
+use Rattle.binary32.specs.Steps.{stepOf}
+use Rattle.binary32.specs.declared.word.Word.{Word}
+use Rattle.binary32.specs.declared.operation.Operation.{Operation}
+use Rattle.binary32.specs.declared.step.Step.{Step}
+use Rattle.binary32.specs.declared.step.Step.the-variants.{Direct, Rounded}
+use Rattle.hints.specs.Settings.{settingOf}
+use Rattle.hints.specs.Scheme.{principalOf, liftOf, exponentOf, cutOf, roundsUp, magnitudeFrom}
+use Rattle.hints.specs.declared.setting.Setting.{Setting}
+use Rattle.hints.specs.declared.writer.Hints.{Hints}
+use Rattle.hints.specs.declared.writer.Written.{Written}
+use Rattle.hints.specs.declared.refusal.Refusal.{Refusal}
+use Rattle.hints.specs.declared.refusal.Refusal.the-variants.{UnknownCode}
+
+-- the word and the hints from main, rest, lift, k, keep, drop and up
+abbrev pub filled : Bool → ℕ → ℕ → ℕ → ℕ → ℕ → ℕ → ℕ → Written
+filled negative exponent main rest lift keep drop up = record {
+  word = record { bits = composed negative (magnitudeFrom exponent keep up) };
+  hints = record { main = main; rest = rest; lift = lift; keep = keep; drop = drop; up = up };
+}
+
+abbrev pub cutAt : Bool → ℕ → ℕ → ℕ → ℕ → ℕ → Written
+cutAt negative exponent main rest lift k =
+    filled negative exponent main rest lift
+    (main * 2 ^ lift / 2 ^ k) (main * 2 ^ lift % 2 ^ k)
+    (cond (roundsUp k rest (main * 2 ^ lift / 2 ^ k) (main * 2 ^ lift % 2 ^ k)) 1 0)
+
+abbrev pub fromPrincipal : Bool → ℕ → ℕ → ℕ → Written
+fromPrincipal negative scale main rest =
+    cutAt negative (exponentOf scale (liftOf main)) main rest (liftOf main) (cutOf scale (liftOf main))
+
+abbrev pub roundedWith : Setting → Written
+roundedWith σ = fromPrincipal (σ .negative) (σ .scale) (principalOf σ .0) (principalOf σ .1)
+
+-- a direct step has its word and six zeros
+abbrev pub writtenFor : Step → Written
+writtenFor (Direct w) = record { word = w; hints = record { main = 0; rest = 0; lift = 0; keep = 0; drop = 0; up = 0 } }
+writtenFor (Rounded negative x) = roundedWith (settingOf negative x)
+
+abbrev pub writtenStep : Operation → ℕ → ℕ → Written
+writtenStep op a b = writtenFor (stepOf op a b)
+
+abbrev pub writtenBy : Option Operation → ℕ → ℕ → Result Written Refusal
+writtenBy None a b = Err UnknownCode
+writtenBy (Some op) a b = Ok (writtenStep op a b)
+
+-- the writer's reply to any code and any two words
+abbrev pub written : ℕ → ℕ → ℕ → Result Written Refusal
+written code a b = writtenBy (operationOf code) a b

@@ -1,0 +1,78 @@
+// The small steps of the writer: powers of two, a quotient, a root and a cut.
+ghost use mathlib.Core.Path.{_≡_};
+ghost use Prim.Native.Nat.{_+_, _-_, _*_, _/_, _%_, _^_, _<_, _≤_};
+ghost use Rattle.hints.specs.Scheme.{floorRoot, roundsUp, liftOf};
+
+// 2^`k`.
+pub(crate) fn power(k: u32) -> u64
+    requires { ⌜ k < 64 ⌝ }
+    ensures { λ r. ⌜ r ≡ 2 ^ k ⌝ }
+{
+    1 << k
+}
+
+// A significand moved up by `by` bits.
+pub(crate) fn moved_up(significand: u64, by: u32) -> u64
+    requires { ⌜ significand < 2 ^ 24 ⌝ ∗ ⌜ by ≤ 27 ⌝ }
+    ensures value { λ r. ⌜ r ≡ significand * 2 ^ by ⌝ }
+    ensures bound { λ r. ⌜ r < 2 ^ 51 ⌝ }
+{
+    significand << by
+}
+
+// The whole quotient and what it leaves over.
+pub(crate) fn quotient(dividend: u64, divisor: u64) -> (u64, u64)
+    requires { ⌜ 0 < divisor ⌝ }
+    ensures { λ r. ⌜ r ≡ (dividend / divisor, dividend % divisor) ⌝ }
+{
+    (dividend / divisor, dividend % divisor)
+}
+
+// The whole square root and what it leaves over, bit by bit from the highest: `rest` is always the
+// radicand less the square of the root so far.
+pub(crate) fn square_root(radicand: u64) -> (u64, u64)
+    requires { ⌜ radicand < 2 ^ 52 ⌝ }
+    ensures { λ r. ⌜ r ≡ (floorRoot 26 radicand, radicand - floorRoot 26 radicand * floorRoot 26 radicand) ⌝ }
+{
+    let mut root: u64 = 0;
+    let mut rest = radicand;
+    for b in (0..26u32).rev() {
+        let bit = power(b);
+        let step = (2 * root + bit) * bit;
+        if step <= rest {
+            rest -= step;
+            root += bit;
+        }
+    }
+    (root, rest)
+}
+
+// The bits from bit `k` up, and those below it.
+pub(crate) fn cut(number: u64, k: u32) -> (u64, u64)
+    requires { ⌜ k < 64 ⌝ }
+    ensures { λ r. ⌜ r ≡ (number / 2 ^ k, number % 2 ^ k) ⌝ }
+{
+    (number >> k, number & (power(k) - 1))
+}
+
+// Whether a cut at bit `k` rounds up: what it drops lies above the middle, or on it and something was
+// left over before or the part that is kept is odd.
+pub(crate) fn rounds_up(k: u32, rest: u64, keep: u64, drop: u64) -> bool
+    requires { ⌜ k < 63 ⌝ ∗ ⌜ drop < 2 ^ 63 ⌝ }
+    ensures { λ r. ⌜ r ≡ roundsUp k rest keep drop ⌝ }
+{
+    let twice = 2 * drop;
+    let whole = power(k);
+    twice > whole || (twice == whole && (rest != 0 || keep % 2 == 1))
+}
+
+// How far main has to be moved up to stand from bit 50 down, and main so moved.
+pub(crate) fn lifted(main: u64) -> (u32, u64)
+    requires { ⌜ 0 < main ⌝ ∗ ⌜ main < 2 ^ 51 ⌝ }
+    ensures value { λ r. ⌜ r ≡ (liftOf main, main * 2 ^ liftOf main) ⌝ }
+    ensures low_bound { λ r. ⌜ r .0 ≤ 50 ⌝ }
+    ensures high_bound { λ r. ⌜ r .1 < 2 ^ 51 ⌝ }
+{
+    let lift = main.leading_zeros() - 13;
+    (lift, main << lift)
+}

@@ -1,0 +1,33 @@
+// What a caller gets instead of an answer.
+ghost use mathlib.Core.Path.{_≡_};
+ghost use Rattle.hints.specs.Refusals.{numberOf, layerOf};
+
+// The part that refuses.
+#[derive(Clone, Copy, PartialEq, Eq, Debug)]
+pub enum Layer {
+    Writer,
+}
+
+#[derive(Clone, Copy, PartialEq, Eq, Debug)]
+pub enum Refusal {
+    // The code is none of an operation.
+    UnknownCode,
+}
+
+impl Refusal {
+    pub fn number(self) -> u32
+        ensures { λ r. ⌜ r ≡ numberOf self ⌝ }
+    {
+        match self {
+            Refusal::UnknownCode => 2,
+        }
+    }
+
+    pub fn layer(self) -> Layer
+        ensures { λ r. ⌜ r ≡ layerOf self ⌝ }
+    {
+        match self {
+            Refusal::UnknownCode => Layer::Writer,
+        }
+    }
+}

@@ -1,0 +1,131 @@
+// The writer: a step's word with the hints that back it.
+ghost use mathlib.Core.Path.{_≡_};
+ghost use Prim.Native.Nat.{_+_, _-_, _*_, _^_, _<_, _≤_};
+ghost use Rattle.binary32.specs.Operations.{operationOf};
+ghost use Rattle.binary32.specs.Steps.{stepOf};
+ghost use Rattle.hints.specs.Backs.{Backs, BacksStep, BacksReply};
+ghost use Rattle.hints.specs.Settings.{Fit};
+ghost use Rattle.hints.specs.Scheme.{principalOf, exponentOf, cutOf, liftOf, magnitudeFrom};
+ghost use Rattle.hints.specs.Writer.{fromPrincipal, roundedWith, writtenStep, written};
+use crate::leaves::cut;
+use crate::leaves::lifted;
+use crate::leaves::moved_up;
+use crate::leaves::quotient;
+use crate::leaves::rounds_up;
+use crate::leaves::square_root;
+use crate::refusal::Refusal;
+use crate::setting::Kind;
+use crate::setting::Setting;
+use binary32::Operation;
+use binary32::Step;
+use binary32::Word;
+use binary32::WordDebug;
+use binary32::WordPartialEq;
+
+// The six hints of a step, in their order.
+#[derive(Clone, Copy, PartialEq, Eq, Debug)]
+pub struct Hints {
+    pub main: u64,
+    pub rest: u64,
+    pub lift: u64,
+    pub keep: u64,
+    pub drop: u64,
+    pub up: u64,
+}
+
+// The word of a step and its hints.
+#[derive(Clone, Copy, PartialEq, Eq, Debug)]
+pub struct Written {
+    pub word: Word,
+    pub hints: Hints,
+}
+
+impl Hints {
+    // Those of a direct step.
+    pub const NONE: Hints = Hints {
+        main: 0,
+        rest: 0,
+        lift: 0,
+        keep: 0,
+        drop: 0,
+        up: 0,
+    };
+}
+
+// The hints main and rest.
+fn principal(setting: Setting) -> (u64, u64)
+    requires { ⌜ Fit setting ⌝ }
+    ensures { λ r. ⌜ r ≡ principalOf setting ⌝ }
+{
+    match setting.kind {
+        Kind::Sum => (
+            moved_up(setting.first, 26) + moved_up(setting.second, setting.shift),
+            0,
+        ),
+        Kind::Difference => (
+            moved_up(setting.first, 26) - moved_up(setting.second, setting.shift),
+            0,
+        ),
+        Kind::Product => (setting.first * setting.second, 0),
+        Kind::Quotient => quotient(moved_up(setting.first, 26), setting.second),
+        Kind::Root => square_root(moved_up(setting.first, setting.shift)),
+    }
+}
+
+// The word and the hints, from main and rest.
+fn filled_from(negative: bool, scale: u32, main: u64, rest: u64) -> Written
+    requires { ⌜ 0 < main ⌝ ∗ ⌜ main < 2 ^ 51 ⌝ ∗ ⌜ scale ≤ 1000 ⌝ }
+    ensures { λ r. ⌜ r ≡ fromPrincipal negative scale main rest ⌝ }
+{
+    let (lift, number) = lifted(main);
+    let exponent = scale.saturating_sub(224 + lift);
+    let k = (exponent + 251 + lift - scale).min(52);
+    let (keep, drop) = cut(number, k);
+    let up = if rounds_up(k, rest, keep, drop) { 1 } else { 0 };
+    let magnitude = (exponent as u64 * 0x80_0000 + keep + up).min(0x7f80_0000);
+    Written {
+        word: Word::compose(negative, magnitude as u32),
+        hints: Hints {
+            main,
+            rest,
+            lift: lift as u64,
+            keep,
+            drop,
+            up,
+        },
+    }
+}
+
+fn rounded(setting: Setting) -> Written
+    requires { ⌜ Fit setting ⌝ }
+    ensures value { λ r. ⌜ r ≡ roundedWith setting ⌝ }
+    ensures backed { λ r. ⌜ Backs setting r ⌝ }
+{
+    let (main, rest) = principal(setting);
+    filled_from(setting.negative, setting.scale, main, rest)
+}
+
+// The word of an operation on two words, with its hints: six zeros where the step is direct.
+pub fn write_step(operation: Operation, a: Word, b: Word) -> Written
+    ensures value { λ r. ⌜ r ≡ writtenStep operation (a .bits) (b .bits) ⌝ }
+    ensures backed { λ r. ⌜ BacksStep (stepOf operation (a .bits) (b .bits)) r ⌝ }
+{
+    match operation.apply(a, b) {
+        Step::Direct(word) => Written {
+            word,
+            hints: Hints::NONE,
+        },
+        Step::Rounded { negative, exact } => rounded(Setting::of(negative, exact)),
+    }
+}
+
+// The same by the operation's code, which may be none.
+pub fn write_word(code: u32, a: Word, b: Word) -> Result<Written, Refusal>
+    ensures value { λ r. ⌜ r ≡ written code (a .bits) (b .bits) ⌝ }
+    ensures backed { λ r. ⌜ BacksReply (operationOf code) (a .bits) (b .bits) r ⌝ }
+{
+    match Operation::from_code(code) {
+        None => Err(Refusal::UnknownCode),
+        Some(operation) => Ok(write_step(operation, a, b)),
+    }
+}
