@@ -5,7 +5,13 @@ ghost use mathlib.Core.Path.{_≡_};
 use crate::system::System;
 
 // An element for `first * second + third * fourth`.
-fn two_products<S: System>(system: &S, first: u64, second: u64, third: u64, fourth: u64) -> S::Element
+fn two_products<S: System>(
+    system: &S,
+    first: u64,
+    second: u64,
+    third: u64,
+    fourth: u64,
+) -> S::Element
     ensures answer { λ r. ⌜ remainder r ≡ (first * second + third * fourth) % modulus ⌝ }
     ensures exact { λ r. ⌜ (first * second + third * fourth < 2 ^ 56 → remainder r ≡ first * second + third * fourth) ⌝ }
 {

@@ -29,7 +29,9 @@ impl<const M: u64> Residue<M> {
         requires { ⌜ M ≤ 2 ^ 32 ⌝ }
         ensures { λ r. ⌜ r .value ≡ (self .entry .value + other .entry .value) % M ⌝ }
     {
-        Residue { value: (self.value + other.value) % M }
+        Residue {
+            value: (self.value + other.value) % M,
+        }
     }
 
     // Both factors are below 2^32, so that their product fits 64 bits.
@@ -37,7 +39,9 @@ impl<const M: u64> Residue<M> {
         requires { ⌜ M ≤ 2 ^ 32 ⌝ }
         ensures { λ r. ⌜ r .value ≡ self .entry .value * other .entry .value % M ⌝ }
     {
-        Residue { value: self.value * other.value % M }
+        Residue {
+            value: self.value * other.value % M,
+        }
     }
 
     pub(crate) fn is(self, other: Self) -> bool

@@ -1,0 +1,76 @@
+// The system modulo 2147483647 * 2013265921, in which an element is its two remainders.
+ghost use Prim.Native.Nat.{ℕ, _+_, _*_, _%_, _^_, _<_, _≤_};
+ghost use mathlib.Core.Path.{_≡_};
+ghost use Rattle.systems.specs.Fixed.{Fixed};
+ghost use Rattle.systems.specs.Joined.{joined};
+use crate::residue::Residue;
+use crate::system::System;
+
+// 2^31 - 1, a prime.
+const FIRST_MODULUS: u64 = 2147483647;
+
+// 15 * 2^27 + 1, a prime.
+const SECOND_MODULUS: u64 = 2013265921;
+
+// Times FIRST_MODULUS it leaves 1 modulo SECOND_MODULUS.
+const FIRST_INVERSE: u64 = 1039104991;
+
+// A number modulo the product of the two moduli, by its remainder modulo each.
+#[derive(Clone, Copy)]
+pub struct Residues {
+    first: Residue<FIRST_MODULUS>,
+    second: Residue<SECOND_MODULUS>,
+}
+
+// The number below the product of the moduli that leaves `first` and `second`. Twice the second modulus is above `first`, so the
+// difference does not fall below 0; it stays below 2^33, and its product with the inverse fits 64 bits.
+fn join(first: u64, second: u64) -> u64
+    requires { ⌜ first < 2147483647 ⌝ ∗ ⌜ second < 2013265921 ⌝ }
+    ensures { λ r. ⌜ r ≡ joined first second ⌝ }
+{
+    let gap = second + 2 * SECOND_MODULUS - first;
+    first + FIRST_MODULUS * (gap * FIRST_INVERSE % SECOND_MODULUS)
+}
+
+#[derive(Clone, Copy)]
+pub struct Pair;
+
+pub impl System for Pair as PairSystem {
+    type Element = Residues;
+
+    ghost modulus = { 0x3C00000007FFFFFF };
+
+    ghost remainder = { λ e. joined (e .first .value) (e .second .value) };
+
+    fn take_in(&self, n: u64) -> Residues {
+        Residues {
+            first: Residue::of(n),
+            second: Residue::of(n),
+        }
+    }
+
+    fn sum(&self, a: Residues, b: Residues) -> Residues {
+        Residues {
+            first: a.first.plus(b.first),
+            second: a.second.plus(b.second),
+        }
+    }
+
+    fn product(&self, a: Residues, b: Residues) -> Residues {
+        Residues {
+            first: a.first.times(b.first),
+            second: a.second.times(b.second),
+        }
+    }
+
+    fn same(&self, a: Residues, b: Residues) -> bool {
+        a.first.is(b.first) & a.second.is(b.second)
+    }
+
+    fn read_back(&self, e: Residues) -> u64
+        ensures number { λ r. ⌜ r ≡ joined (e .first .value) (e .second .value) ⌝ }
+        ensures fixed { λ r. ⌜ Fixed 2147483647 2013265921 (e .first .value) (e .second .value) r ⌝ }
+    {
+        join(e.first.value(), e.second.value())
+    }
+}
