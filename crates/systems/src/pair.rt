@@ -22,16 +22,6 @@ pub struct Residues {
     second: Residue<SECOND_MODULUS>,
 }
 
-// The number below the product of the moduli that leaves `first` and `second`. Twice the second modulus is above `first`, so the
-// difference does not fall below 0; it stays below 2^33, and its product with the inverse fits 64 bits.
-fn join(first: u64, second: u64) -> u64
-    requires { ⌜ first < 2147483647 ⌝ ∗ ⌜ second < 2013265921 ⌝ }
-    ensures { λ r. ⌜ r ≡ joined first second ⌝ }
-{
-    let gap = second + 2 * SECOND_MODULUS - first;
-    first + FIRST_MODULUS * (gap * FIRST_INVERSE % SECOND_MODULUS)
-}
-
 #[derive(Clone, Copy)]
 pub struct Pair;
 
@@ -67,10 +57,14 @@ pub impl System for Pair as PairSystem {
         a.first.is(b.first) & a.second.is(b.second)
     }
 
+    // As many steps of the first modulus above the first remainder as lead to the second. Twice the second modulus is above the
+    // first remainder, so the gap does not fall below 0; it is below 2^33, so its product with the inverse fits 64 bits.
     fn read_back(&self, e: Residues) -> u64
         ensures number { λ r. ⌜ r ≡ joined (e .first .value) (e .second .value) ⌝ }
         ensures fixed { λ r. ⌜ Fixed 2147483647 2013265921 (e .first .value) (e .second .value) r ⌝ }
     {
-        join(e.first.value(), e.second.value())
+        let first = e.first.value();
+        let gap = e.second.value() + 2 * SECOND_MODULUS - first;
+        first + FIRST_MODULUS * (gap * FIRST_INVERSE % SECOND_MODULUS)
     }
 }

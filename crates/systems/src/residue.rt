@@ -3,17 +3,18 @@ ghost use Prim.Native.Nat.{_+_, _*_, _%_, _^_, _<_, _≤_};
 ghost use lib.Dec.{eqb};
 ghost use mathlib.Core.Path.{_≡_};
 
-// A remainder modulo `M`.
+// A remainder modulo `M`. Two remainders are below 2^32, so that their sum and their product fit 64 bits.
 #[derive(Clone, Copy)]
 pub(crate) struct Residue<const M: u64> {
     value: u64,
     ghost below: { value < M },
+    ghost narrow: { M ≤ 2 ^ 32 },
 }
 
 impl<const M: u64> Residue<M> {
     // The remainder of `n`.
     pub(crate) fn of(n: u64) -> Self
-        requires { ⌜ 0 < M ⌝ }
+        requires { ⌜ 0 < M ⌝ ∗ ⌜ M ≤ 2 ^ 32 ⌝ }
         ensures { λ r. ⌜ r .value ≡ n % M ⌝ }
     {
         Residue { value: n % M }
@@ -26,7 +27,6 @@ impl<const M: u64> Residue<M> {
     }
 
     pub(crate) fn plus(self, other: Self) -> Self
-        requires { ⌜ M ≤ 2 ^ 32 ⌝ }
         ensures { λ r. ⌜ r .value ≡ (self .entry .value + other .entry .value) % M ⌝ }
     {
         Residue {
@@ -34,9 +34,7 @@ impl<const M: u64> Residue<M> {
         }
     }
 
-    // Both factors are below 2^32, so that their product fits 64 bits.
     pub(crate) fn times(self, other: Self) -> Self
-        requires { ⌜ M ≤ 2 ^ 32 ⌝ }
         ensures { λ r. ⌜ r .value ≡ self .entry .value * other .entry .value % M ⌝ }
     {
         Residue {
