@@ -12,8 +12,8 @@ fn two_products<S: System>(
     third: u64,
     fourth: u64,
 ) -> S::Element
-    ensures answer { λ r. ⌜ remainder r ≡ (first * second + third * fourth) % modulus ⌝ }
-    ensures exact { λ r. ⌜ (first * second + third * fourth < 2 ^ 56 → remainder r ≡ first * second + third * fourth) ⌝ }
+    ensures remainders { λ r. ⌜ remainder r ≡ (first * second + third * fourth) % modulus ⌝ }
+    ensures numbers { λ r. ⌜ (first * second + third * fourth < 2 ^ 56 → remainder r ≡ first * second + third * fourth) ⌝ }
 {
     let front = system.product(system.take_in(first), system.take_in(second));
     let back = system.product(system.take_in(third), system.take_in(fourth));
@@ -22,8 +22,8 @@ fn two_products<S: System>(
 
 // An element for `first * second + third`.
 fn product_and_term<S: System>(system: &S, first: u64, second: u64, third: u64) -> S::Element
-    ensures answer { λ r. ⌜ remainder r ≡ (first * second + third) % modulus ⌝ }
-    ensures exact { λ r. ⌜ (first * second + third < 2 ^ 56 → remainder r ≡ first * second + third) ⌝ }
+    ensures remainders { λ r. ⌜ remainder r ≡ (first * second + third) % modulus ⌝ }
+    ensures numbers { λ r. ⌜ (first * second + third < 2 ^ 56 → remainder r ≡ first * second + third) ⌝ }
 {
     let product = system.product(system.take_in(first), system.take_in(second));
     system.sum(product, system.take_in(third))

@@ -1,15 +1,14 @@
 // The system modulo 2147483647 * 2013265921, in which an element is its two remainders.
-ghost use Prim.Native.Nat.{ℕ, _+_, _*_, _%_, _^_, _<_, _≤_};
 ghost use mathlib.Core.Path.{_≡_};
 ghost use Rattle.systems.specs.Fixed.{Fixed};
 ghost use Rattle.systems.specs.Joined.{joined};
 use crate::residue::Residue;
 use crate::system::System;
 
-// 2^31 - 1, a prime.
+// 2^31 - 1.
 const FIRST_MODULUS: u64 = 2147483647;
 
-// 15 * 2^27 + 1, a prime.
+// 15 * 2^27 + 1, which has no factor in common with the first modulus.
 const SECOND_MODULUS: u64 = 2013265921;
 
 // Times FIRST_MODULUS it leaves 1 modulo SECOND_MODULUS.
@@ -22,6 +21,7 @@ pub struct Residues {
     second: Residue<SECOND_MODULUS>,
 }
 
+// The system itself holds nothing.
 #[derive(Clone, Copy)]
 pub struct Pair;
 
@@ -57,8 +57,9 @@ pub impl System for Pair as PairSystem {
         a.first.is(b.first) & a.second.is(b.second)
     }
 
-    // As many steps of the first modulus above the first remainder as lead to the second. Twice the second modulus is above the
-    // first remainder, so the gap does not fall below 0; it is below 2^33, so its product with the inverse fits 64 bits.
+    // The one number below the modulus that leaves both remainders: as many steps of the first modulus above the
+    // first remainder as lead to the second. Twice the second modulus is above the first remainder, so the gap does not fall
+    // below 0; it is below 2^33, so its product with the inverse fits 64 bits.
     fn read_back(&self, e: Residues) -> u64
         ensures number { λ r. ⌜ r ≡ joined (e .first .value) (e .second .value) ⌝ }
         ensures fixed { λ r. ⌜ Fixed 2147483647 2013265921 (e .first .value) (e .second .value) r ⌝ }

@@ -20,6 +20,7 @@ pub trait System: Copy {
     // A remainder fits 64 bits.
     law fits: { modulus ≤ 2 ^ 64 };
 
+    // No remainder reaches the modulus.
     law below: { (e : Self·Element) → remainder e < modulus };
 
     // An element for the remainder of `n`.

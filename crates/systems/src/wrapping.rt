@@ -1,6 +1,5 @@
 // The system modulo 2^64, in which an element is a number that wraps.
-ghost use Prim.Native.Nat.{ℕ, _+_, _*_, _%_, _^_, _<_, _≤_};
-ghost use mathlib.Core.Path.{_≡_};
+ghost use Prim.Native.Nat.{_^_, _<_};
 use crate::system::System;
 
 // A number modulo 2^64.
@@ -10,6 +9,7 @@ pub struct Wrapped {
     ghost below: { number < 2 ^ 64 },
 }
 
+// The system itself holds nothing.
 #[derive(Clone, Copy)]
 pub struct Wrapping;
 

@@ -11,4 +11,4 @@ returns g c =
     let product = product-mod (x .first) (x .second) m in
     let joined = sum-mod (x .first * x .second) (x .third) m in
     let answered : g .S·System .remainder (c .sum .result) ≡ (x .first * x .second + x .third) % m = cc in
-    record { answer = answered; exact = λ small. answered ∙ whole small (g .S·System·met .large) }
+    record { remainders = answered; numbers = λ small. answered ∙ whole small (g .S·System·met .large) }

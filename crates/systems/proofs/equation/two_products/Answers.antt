@@ -12,4 +12,4 @@ returns g c =
     let back = product-mod (x .third) (x .fourth) m in
     let joined = sum-mod (x .first * x .second) (x .third * x .fourth) m in
     let answered : g .S·System .remainder (c .sum .result) ≡ (x .first * x .second + x .third * x .fourth) % m = cc in
-    record { answer = answered; exact = λ small. answered ∙ whole small (g .S·System·met .large) }
+    record { remainders = answered; numbers = λ small. answered ∙ whole small (g .S·System·met .large) }
