@@ -1,0 +1,3 @@
+pub mod Coprime
+pub mod Joined
+pub mod Remainders
