@@ -1,0 +1,4 @@
+pub mod Climb
+pub mod Halves
+pub mod Neighbours
+pub mod Unique

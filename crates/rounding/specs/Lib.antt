@@ -1,0 +1,3 @@
+pub mod Exact
+pub mod Laws
+pub mod Nearest
