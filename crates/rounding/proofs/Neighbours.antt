@@ -1,14 +1,14 @@
 -- A candidate is nearest to a value if the value lies rightly by the middles to its two neighbours.
 use mathlib.Core.Path.{_≡_}
 use mathlib.Core.Logic.{_⊎_, inl, inr}
-use Prim.Native.Nat.{ℕ, suc, pred, _+_, _-_, _%_, _≤_, _<_}
+use Prim.Native.Nat.{ℕ, suc, _+_, _-_, _*_, _%_, _≤_, _<_}
 use native.Mathlib.Omega.{arith}
 use Rattle.std.proofs.shelf.Tests.{cases-eq}
 use Rattle.binary32.specs.Sizes.{size}
 use Rattle.binary32.proofs.Sizes.{size-rises}
 use Rattle.rounding.specs.Exact.{Value, Sound, weight, half, On}
 use Rattle.rounding.specs.Nearest.{Nearest, top, middle}
-use Rattle.rounding.proofs.Halves.{half-keeps}
+use Rattle.rounding.proofs.Halves.{half-rises, half-keeps}
 
 pub size-keeps : (m n : ℕ) → m ≤ n → size m ≤ size n
 size-keeps m n within =
@@ -47,3 +47,18 @@ module _ (V : Value) (sound : Sound V) where
         not-above = λ x more fits. omega (arith, above m x more, stays (omega arith) .not-above);
         even-above = λ x more fits on. stays (omega arith) .even (omega (arith, above m x more, stays (omega arith) .not-above));
       }
+
+  -- a value from a magnitude's own size up reaches it, and one up to that size stays
+  pub reaches-from : (m : ℕ) → half V (2 * size m) ≤ weight V → 0 < m → Reaches V (m - 1)
+  reaches-from m from some =
+      let next : suc (m - 1) ≡ m = omega arith in
+      let lower = half-rises V sound (middle (m - 1) m) (2 * size m) (omega (arith, size-rises (m - 1) m (omega arith))) in
+      record {
+        not-below = rw next (omega arith);
+        even = rw next (λ on. absurd (omega arith));
+      }
+
+  pub stays-from : (m : ℕ) → weight V ≤ half V (2 * size m) → Stays V m
+  stays-from m upto =
+      let higher = half-rises V sound (2 * size m) (middle m (suc m)) (omega (arith, size-rises m (suc m) (omega arith))) in
+      record { not-above = omega arith; even = λ on. absurd (omega arith) }

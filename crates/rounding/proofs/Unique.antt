@@ -7,8 +7,9 @@ use Rattle.std.proofs.shelf.Tests.{cases-eq, cases-order}
 use Rattle.binary32.specs.Sizes.{size}
 use Rattle.binary32.proofs.Sizes.{size-rises}
 use Rattle.rounding.specs.Exact.{Value, Sound, weight, half, On}
-use Rattle.rounding.specs.Nearest.{Nearest, top, middle}
+use Rattle.rounding.specs.Nearest.{Nearest, nearest, top, middle}
 use Rattle.rounding.specs.Laws.{Is-unique}
+use Rattle.rounding.proofs.Climb.{is-nearest}
 use Rattle.rounding.proofs.Halves.{half-rises}
 
 module _ (V : Value) (sound : Sound V) where
@@ -31,3 +32,7 @@ unique V m n sound at-m at-n =
       | inr (inl less) ↦ absurd (not-two V sound m n at-m at-n less)
       | inr (inr more) ↦ absurd (not-two V sound n m at-n at-m more)
     ]
+
+-- so a magnitude that is nearest is the nearest
+pub nearest-is : (V : Value) (m : ℕ) → Sound V → Nearest V m → nearest V ≡ m
+nearest-is V m sound near = unique V (nearest V) m sound (is-nearest V sound) near

@@ -1,8 +1,10 @@
 -- What holds of the nearest magnitude.
 use mathlib.Core.Path.{_≡_}
-use Prim.Native.Nat.{ℕ, _≤_, _<_}
-use Rattle.rounding.specs.Exact.{Value, Sound}
-use Rattle.rounding.specs.Nearest.{Nearest, nearest}
+use Prim.Native.Nat.{ℕ, min, _+_, _*_, _^_, _≤_, _<_}
+use Rattle.binary32.specs.Sizes.{size}
+use Rattle.rounding.specs.Exact.{Value, ratio, Sound, weight, half}
+use Rattle.rounding.specs.Nearest.{Nearest, nearest, top}
+use Rattle.rounding.specs.Cut.{Lies, Cut}
 
 -- The nearest magnitude of a value is nearest to it.
 abbrev pub Is-nearest : Type 0
@@ -11,3 +13,17 @@ Is-nearest = (V : Value) → Sound V → Nearest V (nearest V)
 -- No other is.
 abbrev pub Is-unique : Type 0
 Is-unique = (V : Value) (m n : ℕ) → Sound V → Nearest V m → Nearest V n → m ≡ n
+
+-- From 2^128 up, which is 2^277 units, the nearest magnitude is that of infinity.
+abbrev pub Overflows : Type 0
+Overflows = (V : Value) → Sound V → half V (2 * 2 ^ 277) ≤ weight V → nearest V ≡ top
+
+-- A value that a magnitude has is rounded to it.
+abbrev pub Keeps-sizes : Type 0
+Keeps-sizes = (m : ℕ) → m ≤ top → nearest (ratio (size m) 1) ≡ m
+
+-- A value is rounded by its leading bits alone, and whether anything lies beyond them.
+abbrev pub Rounds-cut : Type 0
+Rounds-cut =
+    (V : Value) (main rest S lift U k keep drop up : ℕ) → Sound V → Lies V main rest S → Cut main rest S lift U k keep drop up →
+    nearest V ≡ min (U * 2 ^ 23 + keep + up) top

@@ -1,5 +1,5 @@
-// The nearest binary32 magnitude to an exact result.
-ghost use Rattle.rounding.specs.Laws.{Is-nearest, Is-unique};
+// The nearest binary32 magnitude to an exact result, by its laws.
+ghost use Rattle.rounding.specs.Laws.{Is-nearest, Is-unique, Overflows, Keeps-sizes};
 
 // The nearest magnitude of a value is nearest to it.
 pub fn nearest_is_nearest() -> u8
@@ -11,6 +11,20 @@ pub fn nearest_is_nearest() -> u8
 // No other is.
 pub fn nearest_is_unique() -> u8
     ensures { λ _. ⌜ Is-unique ⌝ }
+{
+    0
+}
+
+// From 2^128 up the nearest magnitude is that of infinity.
+pub fn large_values_overflow() -> u8
+    ensures { λ _. ⌜ Overflows ⌝ }
+{
+    0
+}
+
+// A value that a magnitude has is rounded to it.
+pub fn sizes_are_kept() -> u8
+    ensures { λ _. ⌜ Keeps-sizes ⌝ }
 {
     0
 }
