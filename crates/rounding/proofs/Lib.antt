@@ -1,5 +1,8 @@
 pub mod Climb
+pub mod Close
+pub mod Cuts
 pub mod Halves
+pub mod Lies
 pub mod Neighbours
 pub mod Overflow
 pub mod Scaled

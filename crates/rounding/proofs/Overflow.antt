@@ -17,15 +17,15 @@ size-top = refl
 pub overflows : Overflows
 overflows V sound reaches =
     nearest-is V top sound
-      (from-neighbours V sound top (omega arith) (reaches-from V sound top (rw size-top reaches)) (λ less. absurd (omega arith)))
+    (from-neighbours V sound top (omega arith) (reaches-from V sound top (rw size-top reaches)) (λ less. absurd (omega arith)))
 
 pub keeps-sizes : Keeps-sizes
 keeps-sizes m within =
     nearest-is (ratio (size m) 1) m (omega arith)
-      (record {
-        candidate = within;
-        not-below = λ x less. omega (arith, size-rises x m less);
-        even-below = λ x less on. absurd (omega (arith, size-rises x m less));
-        not-above = λ x more fits. omega (arith, size-rises m x more);
-        even-above = λ x more fits on. absurd (omega (arith, size-rises m x more));
-      })
+    (record {
+      candidate = within;
+      not-below = λ x less. omega (arith, size-rises x m less);
+      even-below = λ x less on. absurd (omega (arith, size-rises x m less));
+      not-above = λ x more fits. omega (arith, size-rises m x more);
+      even-above = λ x more fits on. absurd (omega (arith, size-rises m x more));
+    })

@@ -32,3 +32,8 @@ pub record Cut (main rest S lift U k keep drop up : ℕ) : Type 0 where
   pub rest-low : drop < 2 ^ k
   pub exact-lift : (rest ≡ 0 → ⊥) → lift ≤ 26
   pub upward : up ≡ cond (roundsUp rest k keep drop) 1 0
+
+-- The value lies less than 2^24 · 2^S / 2^251 units away from m · 2^26 · 2^S / 2^251.
+pub record Close (V : Value) (m S : ℕ) : Type 0 where
+  pub over : (h : ℕ) → h * 2 ^ 251 + 2 ^ 25 * 2 ^ S ≤ 2 * (m * 2 ^ 26) * 2 ^ S → Above V h
+  pub under : (h : ℕ) → 2 * (m * 2 ^ 26) * 2 ^ S + 2 ^ 25 * 2 ^ S ≤ h * 2 ^ 251 → Below V h

@@ -4,7 +4,7 @@ use Prim.Native.Nat.{ℕ, min, _+_, _*_, _^_, _≤_, _<_}
 use Rattle.binary32.specs.Sizes.{size}
 use Rattle.rounding.specs.Exact.{Value, ratio, Sound, weight, half}
 use Rattle.rounding.specs.Nearest.{Nearest, nearest, top}
-use Rattle.rounding.specs.Cut.{Lies, Cut}
+use Rattle.rounding.specs.Cut.{Lies, Cut, Close}
 
 -- The nearest magnitude of a value is nearest to it.
 abbrev pub Is-nearest : Type 0
@@ -27,3 +27,9 @@ abbrev pub Rounds-cut : Type 0
 Rounds-cut =
     (V : Value) (main rest S lift U k keep drop up : ℕ) → Sound V → Lies V main rest S → Cut main rest S lift U k keep drop up →
     nearest V ≡ min (U * 2 ^ 23 + keep + up) top
+
+-- A magnitude whose size is m · 2^26 · 2^S / 2^251, where m has 24 bits, is nearest to each value close to it: the next sizes
+-- are 2^26 · 2^S / 2^251 away or more, or half of that below a power of two.
+abbrev pub Keeps-close : Type 0
+Keeps-close =
+    (V : Value) (c m S : ℕ) → Sound V → c ≤ top → 2 ^ 23 ≤ m → size c * 2 ^ 251 ≡ m * 2 ^ 26 * 2 ^ S → Close V m S → nearest V ≡ c

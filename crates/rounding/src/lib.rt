@@ -1,5 +1,5 @@
 // The nearest binary32 magnitude to an exact result, by its laws.
-ghost use Rattle.rounding.specs.Laws.{Is-nearest, Is-unique, Overflows, Keeps-sizes};
+ghost use Rattle.rounding.specs.Laws.{Is-nearest, Is-unique, Overflows, Keeps-sizes, Rounds-cut, Keeps-close};
 
 // The nearest magnitude of a value is nearest to it.
 pub fn nearest_is_nearest() -> u8
@@ -25,6 +25,20 @@ pub fn large_values_overflow() -> u8
 // A value that a magnitude has is rounded to it.
 pub fn sizes_are_kept() -> u8
     ensures { λ _. ⌜ Keeps-sizes ⌝ }
+{
+    0
+}
+
+// A value is rounded by its leading bits alone, and whether anything lies beyond them.
+pub fn cuts_round() -> u8
+    ensures { λ _. ⌜ Rounds-cut ⌝ }
+{
+    0
+}
+
+// A value close to that of a magnitude is rounded to it.
+pub fn close_values_are_kept() -> u8
+    ensures { λ _. ⌜ Keeps-close ⌝ }
 {
     0
 }
