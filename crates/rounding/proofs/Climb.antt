@@ -1,13 +1,13 @@
 -- The climb bit by bit ends at a magnitude that the value does not pass, above one that it passes.
-use mathlib.Core.Path.{_≡_, refl}
-use mathlib.Core.Bool.{Bool, true, false, cond, _&&_, _||_}
-use mathlib.Core.Logic.{_⊎_, inl, inr}
+use mathlib.Core.Path.{_≡_}
+use mathlib.Core.Bool.{true, false, _&&_}
+use mathlib.Core.Logic.{inl, inr}
 use Prim.Native.Nat.{ℕ, zero, suc, _+_, _-_, _%_, _^_, _≤_, _<_}
 use native.Mathlib.Omega.{arith}
-use lib.Dec.{eqb, ltb, leb}
-use Rattle.std.proofs.shelf.Tests.{cases-bool, ltb-true, ltb-false, eqb-true, eqb-false, eq-eqb, leb-true, leb-false, and-parts, and-cases, or-cases, or-parts, cond-true, cond-false}
-use Rattle.rounding.specs.Exact.{Value, Sound, weight, half, On}
-use Rattle.rounding.specs.Nearest.{Nearest, top, middle, passes, climb, nearest}
+use lib.Dec.{leb}
+use Rattle.std.proofs.shelf.Tests.{cases-bool, ltb-true, ltb-false, eqb-true, eqb-false, leb-true, leb-false, and-parts, and-cases, or-cases, or-parts, cond-true, cond-false}
+use Rattle.rounding.specs.Exact.{Value, weight, half}
+use Rattle.rounding.specs.Nearest.{top, middle, passes, climb, nearest}
 use Rattle.rounding.specs.Laws.{Is-nearest}
 use Rattle.rounding.proofs.Neighbours.{Reaches, Stays, from-neighbours}
 

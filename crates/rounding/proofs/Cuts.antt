@@ -1,16 +1,16 @@
 -- A value is rounded by the cut of its leading bits.
 use mathlib.Core.Path.{_≡_, sym, ap, _∙_}
-use mathlib.Core.Bool.{Bool, true, false, cond, not, _&&_, _||_}
+use mathlib.Core.Bool.{true, false, cond, not, _&&_, _||_}
 use mathlib.Core.Logic.{_⊎_, inl, inr}
 use Prim.Native.Nat.{ℕ, suc, min, _+_, _-_, _*_, _%_, _^_, _≤_, _<_}
 use native.Mathlib.Omega.{arith}
 use native.Mathlib.Nat.{mul-le-mul-left, min-eq-left, min-eq-right}
 use lib.Dec.{eqb, ltb}
 use lib.Pow.{pow-mono}
-use Rattle.std.proofs.shelf.Tests.{cases-eq, cases-lt, cases-order, cases-bool, ltb-true, ltb-false, eqb-true, eqb-false, or-cases, or-parts, and-parts, and-cases, not-true, not-false, cond-true, cond-false, or-from, and-left, le-ltb, ne-eqb}
+use Rattle.std.proofs.shelf.Tests.{cases-eq, cases-lt, cases-bool, ltb-true, ltb-false, eqb-true, eqb-false, or-cases, or-parts, and-parts, and-cases, not-true, not-false, cond-true, cond-false, or-from, and-left, le-ltb, ne-eqb}
 use Rattle.binary32.specs.Sizes.{size}
 use Rattle.rounding.specs.Exact.{Value, Sound, weight, half, Above, On, Below}
-use Rattle.rounding.specs.Nearest.{Nearest, nearest, top, middle}
+use Rattle.rounding.specs.Nearest.{nearest, top, middle}
 use Rattle.rounding.specs.Cut.{Lies, Cut, roundsUp}
 use Rattle.rounding.specs.Laws.{Rounds-cut}
 use Rattle.rounding.proofs.Halves.{half-keeps}
@@ -44,8 +44,11 @@ module _ (V : Value) (sound : Sound V) (c : ℕ) (from : half V (2 * size c) ≤
         | inr high ↦ high-overflows high ∙ sym (min-eq-right (omega arith))
       ]
 
--- the facts of a cut that is not held down
-module _ (V : Value) (main rest S lift U k keep drop : ℕ) (sound : Sound V) (lies : Lies V main rest S) (level : S + k ≡ U + 251 + lift) (room : (rest ≡ 0 → ⊥) → lift < k) (parts : main * 2 ^ lift ≡ keep * 2 ^ k + drop) (rest-low : drop < 2 ^ k) (keep-fits : keep < 2 ^ 24) (normal : (U ≡ 0) ⊎ (2 ^ 23 ≤ keep)) where
+-- a cut that is not held down at bit 52
+module _ (V : Value) (main rest S lift U k keep drop : ℕ) (sound : Sound V) (lies : Lies V main rest S)
+    (level : S + k ≡ U + 251 + lift) (room : (rest ≡ 0 → ⊥) → lift < k) (parts : main * 2 ^ lift ≡ keep * 2 ^ k + drop)
+    (drop-fits : drop < 2 ^ k) (keep-fits : keep < 2 ^ 24) (normal : (U ≡ 0) ⊎ (2 ^ 23 ≤ keep)) where
+  -- the kept part is the size of a magnitude, and one more is that of the next
   here : size (U * 2 ^ 23 + keep) ≡ keep * 2 ^ U
   here = size-spaced U keep (omega arith) normal
 
@@ -57,6 +60,7 @@ module _ (V : Value) (main rest S lift U k keep drop : ℕ) (sound : Sound V) (l
   mid : middle (U * 2 ^ 23 + keep) (suc (U * 2 ^ 23 + keep)) ≡ (2 * keep + 1) * 2 ^ U
   mid = rw (here, next) (omega arith)
 
+  -- the value lies from the one to the other
   from-here : half V (2 * size (U * 2 ^ 23 + keep)) ≤ weight V
   from-here =
       let double : 2 * size (U * 2 ^ 23 + keep) ≡ 2 * keep * 2 ^ U = rw here (omega arith) in
@@ -76,6 +80,7 @@ module _ (V : Value) (main rest S lift U k keep drop : ℕ) (sound : Sound V) (l
       let double : 2 * size (suc (U * 2 ^ 23 + keep)) ≡ 2 * suc keep * 2 ^ U = rw next (omega arith) in
       rw double (omega (arith, below-scaled V main rest S lift U k lies level room (2 * suc keep) (omega arith)))
 
+  -- and on this or that side of their middle as what is dropped is less or more than half
   stays-less : 2 * drop < 2 ^ k → Stays V (U * 2 ^ 23 + keep)
   stays-less less =
       let below : Below V ((2 * keep + 1) * 2 ^ U) = below-scaled V main rest S lift U k lies level room (2 * keep + 1) (omega arith) in
@@ -151,7 +156,8 @@ module _ (V : Value) (main rest S lift U k keep drop : ℕ) (sound : Sound V) (l
             rounds-down (stays-by lower) ∙ ap (λ n. min n top) (omega arith)
       ]
 
-module _ (V : Value) (main rest S lift U k keep drop up : ℕ) (sound : Sound V) (lies : Lies V main rest S) (cut : Cut main rest S lift U k keep drop up) where
+module _ (V : Value) (main rest S lift U k keep drop up : ℕ) (sound : Sound V) (lies : Lies V main rest S)
+    (cut : Cut main rest S lift U k keep drop up) where
   rounds-free : U + 251 + lift - S ≤ 52 → nearest V ≡ min (U * 2 ^ 23 + keep + up) top
   rounds-free free =
       let level : S + k ≡ U + 251 + lift = omega (arith, cut .spacing, cut .place) in
@@ -165,10 +171,10 @@ module _ (V : Value) (main rest S lift U k keep drop up : ℕ) (sound : Sound V)
         | inr some ↦
             let at-27 : k ≡ 27 = omega (arith, cut .spacing, cut .place) in
             let parts : main * 2 ^ lift ≡ keep * 2 ^ 27 + drop = rw at-27 at (cut .parts) in
-            let rest-low : drop < 2 ^ 27 = rw at-27 at (cut .rest-low) in
+            let drop-fits : drop < 2 ^ 27 = rw at-27 at (cut .drop-fits) in
             inr (omega (arith, cut .high))
       ] in
-      rounds V main rest S lift U k keep drop sound lies level (λ some. omega (arith, cut .exact-lift some)) (cut .parts) (cut .rest-low) keep-fits normal up (cut .upward)
+      rounds V main rest S lift U k keep drop sound lies level (λ some. omega (arith, cut .lift-fits some)) (cut .parts) (cut .drop-fits) keep-fits normal up (cut .upward)
 
   -- where the cut is held down at bit 52 the value lies below half of the least size
   rounds-held : 52 < U + 251 + lift - S → nearest V ≡ min (U * 2 ^ 23 + keep + up) top
@@ -183,7 +189,7 @@ module _ (V : Value) (main rest S lift U k keep drop up : ℕ) (sound : Sound V)
       let whole = U + 251 + lift - S in
       let power : 2 ^ 53 ≤ 2 ^ whole = pow-mono held in
       let level : S + whole ≡ U + 251 + lift = omega arith in
-      let room : (rest ≡ 0 → ⊥) → lift < whole = λ some. omega (arith, cut .exact-lift some) in
+      let room : (rest ≡ 0 → ⊥) → lift < whole = λ some. omega (arith, cut .lift-fits some) in
       let split : main * 2 ^ lift ≡ 0 * 2 ^ whole + main * 2 ^ lift = omega arith in
       let within : main * 2 ^ lift < 2 ^ whole = omega (arith, cut .low) in
       let stays = stays-less V main rest S lift U whole 0 (main * 2 ^ lift) sound lies level room split within (omega arith) (inl none) (omega (arith, cut .low)) in

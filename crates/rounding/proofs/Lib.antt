@@ -5,6 +5,7 @@ pub mod Halves
 pub mod Lies
 pub mod Neighbours
 pub mod Overflow
+pub mod Results
 pub mod Scaled
 pub mod Spacing
 pub mod Unique

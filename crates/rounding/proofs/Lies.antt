@@ -1,13 +1,14 @@
 -- A value lies by its leading bits if it is no less than they are, and less than with one more in them.
 use mathlib.Core.Path.{_≡_, ap}
-use Prim.Native.Nat.{ℕ, suc, _+_, _*_, _^_, _≤_, _<_}
+use Prim.Native.Nat.{ℕ, suc, _*_, _^_, _≤_, _<_}
 use native.Mathlib.Omega.{arith}
 use native.Mathlib.Nat.{mul-le-mul-right, mul-lt-mul-of-pos-right, mul-le-mul}
 use Rattle.std.proofs.shelf.Bits.{mul-lt}
-use Rattle.rounding.specs.Exact.{Value, ratio, root}
+use Rattle.rounding.specs.Exact.{ratio, root}
 use Rattle.rounding.specs.Cut.{Lies}
 
-module _ (n d main rest S : ℕ) (divides : 0 < d) (least : main * 2 ^ S * d ≤ n * 2 ^ 251) (most : n * 2 ^ 251 < suc main * 2 ^ S * d) (exact : rest ≡ 0 → main * 2 ^ S * d ≡ n * 2 ^ 251) (inexact : (rest ≡ 0 → ⊥) → main * 2 ^ S * d < n * 2 ^ 251) where
+module _ (n d main rest S : ℕ) (divides : 0 < d) (least : main * 2 ^ S * d ≤ n * 2 ^ 251) (most : n * 2 ^ 251 < suc main * 2 ^ S * d)
+    (exact : rest ≡ 0 → main * 2 ^ S * d ≡ n * 2 ^ 251) (inexact : (rest ≡ 0 → ⊥) → main * 2 ^ S * d < n * 2 ^ 251) where
   pub lies-ratio : Lies (ratio n d) main rest S
   lies-ratio =
       record {
@@ -18,7 +19,11 @@ module _ (n d main rest S : ℕ) (divides : 0 < d) (least : main * 2 ^ S * d ≤
         short = λ h some under. omega (arith, mul-le-mul-right d under);
       }
 
-module _ (n main rest S : ℕ) (least : main * 2 ^ S * (main * 2 ^ S) ≤ n * 2 ^ 502) (most : n * 2 ^ 502 < suc main * 2 ^ S * (suc main * 2 ^ S)) (exact : rest ≡ 0 → main * 2 ^ S * (main * 2 ^ S) ≡ n * 2 ^ 502) (inexact : (rest ≡ 0 → ⊥) → main * 2 ^ S * (main * 2 ^ S) < n * 2 ^ 502) where
+-- the same of a square root, by squares
+module _ (n main rest S : ℕ) (least : main * 2 ^ S * (main * 2 ^ S) ≤ n * 2 ^ 502)
+    (most : n * 2 ^ 502 < suc main * 2 ^ S * (suc main * 2 ^ S))
+    (exact : rest ≡ 0 → main * 2 ^ S * (main * 2 ^ S) ≡ n * 2 ^ 502)
+    (inexact : (rest ≡ 0 → ⊥) → main * 2 ^ S * (main * 2 ^ S) < n * 2 ^ 502) where
   pub lies-root : Lies (root n) main rest S
   lies-root =
       record {

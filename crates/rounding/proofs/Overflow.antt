@@ -1,6 +1,6 @@
 -- The values that are magnitudes, and those from 2^128 up.
 use mathlib.Core.Path.{_≡_, refl}
-use Prim.Native.Nat.{ℕ, _^_}
+use Prim.Native.Nat.{_^_}
 use native.Mathlib.Omega.{arith}
 use Rattle.binary32.specs.Sizes.{size}
 use Rattle.binary32.proofs.Sizes.{size-rises}

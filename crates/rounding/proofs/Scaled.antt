@@ -1,10 +1,10 @@
 -- A value known by its leading bits, against the multiples of half a power of two: as those bits moved up to where the power
 -- is 2^k, against the same multiple of 2^k.
 use mathlib.Core.Path.{_≡_, sym, ap, _∙_}
-use mathlib.Core.Logic.{_⊎_, inl, inr}
+use mathlib.Core.Logic.{inl, inr}
 use Prim.Native.Nat.{ℕ, suc, _+_, _-_, _*_, _^_, _≤_, _<_}
 use native.Mathlib.Omega.{arith}
-use native.Mathlib.Nat.{mul-le-mul-right, mul-lt-mul-of-pos-right, lt-of-mul-lt-mul-right, le-of-mul-le-mul-right, eq-of-mul-eq-mul-right, pow-succ', mul-assoc}
+use native.Mathlib.Nat.{mul-le-mul-right, mul-lt-mul-of-pos-right, lt-of-mul-lt-mul-right, le-of-mul-le-mul-right, eq-of-mul-eq-mul-right, pow-succ'}
 use lib.Pow.{pow-pos, pow-add}
 use Rattle.std.proofs.shelf.Tests.{cases-eq}
 use Rattle.rounding.specs.Exact.{Value, Above, On, Below}
@@ -45,7 +45,8 @@ module _ (main S lift U k : ℕ) (level : S + k ≡ U + 251 + lift) where
         let both : (2 * main * 2 ^ S + 2 * 2 ^ S) * q ≤ g * 2 ^ U * 2 ^ 251 * q = omega (arith, scaled-multiple) in
         le-of-mul-le-mul-right both (pow-pos lift)
 
-module _ (V : Value) (main rest S lift U k : ℕ) (lies : Lies V main rest S) (level : S + k ≡ U + 251 + lift) (room : (rest ≡ 0 → ⊥) → lift < k) (g : ℕ) where
+module _ (V : Value) (main rest S lift U k : ℕ) (lies : Lies V main rest S) (level : S + k ≡ U + 251 + lift)
+    (room : (rest ≡ 0 → ⊥) → lift < k) (g : ℕ) where
   pub above-scaled : g * 2 ^ k < 2 * (main * 2 ^ lift) → Above V (g * 2 ^ U)
   above-scaled over = lies .more (g * 2 ^ U) (more main S lift U k level g over)
 

@@ -1,12 +1,11 @@
 -- A value has no two nearest magnitudes.
-use mathlib.Core.Path.{_≡_, sym}
-use mathlib.Core.Logic.{_⊎_, inl, inr}
-use Prim.Native.Nat.{ℕ, suc, _+_, _%_, _≤_, _<_}
+use mathlib.Core.Path.{_≡_}
+use mathlib.Core.Logic.{inl, inr}
+use Prim.Native.Nat.{ℕ, suc, _≤_, _<_}
 use native.Mathlib.Omega.{arith}
 use Rattle.std.proofs.shelf.Tests.{cases-eq, cases-order}
-use Rattle.binary32.specs.Sizes.{size}
 use Rattle.binary32.proofs.Sizes.{size-rises}
-use Rattle.rounding.specs.Exact.{Value, Sound, weight, half, On}
+use Rattle.rounding.specs.Exact.{Value, Sound, On}
 use Rattle.rounding.specs.Nearest.{Nearest, nearest, top, middle}
 use Rattle.rounding.specs.Laws.{Is-unique}
 use Rattle.rounding.proofs.Climb.{is-nearest}

@@ -5,9 +5,9 @@ use Prim.Native.Nat.{ℕ, min, _+_, _-_, _*_, _%_, _^_, _≤_, _<_}
 use lib.Dec.{eqb, ltb}
 use Rattle.rounding.specs.Exact.{Value, Above, On, Below}
 
--- The value is (main + ε) · 2^S / 2^251 units, with ε from 0 and less than 1, and 0 just where `rest` is. So it compares
--- with h / 2 as 2 · main · 2^S with h · 2^251 if `rest` is 0; else it is above where those are equal, and below only
--- where one more in `main` does not pass.
+-- The value is (main + ε) · 2^S / 2^251 units, where 0 ≤ ε < 1, and ε is 0 just where `rest` is. So it compares with h / 2
+-- as 2 · main · 2^S with h · 2^251 if `rest` is 0. If not, it is above where those are equal, and is known to be below
+-- where one more in `main` would not go past.
 pub record Lies (V : Value) (main rest S : ℕ) : Type 0 where
   pub more : (h : ℕ) → h * 2 ^ 251 < 2 * main * 2 ^ S → Above V h
   pub equal : (h : ℕ) → rest ≡ 0 → h * 2 ^ 251 ≡ 2 * main * 2 ^ S → On V h
@@ -20,17 +20,17 @@ pub record Lies (V : Value) (main rest S : ℕ) : Type 0 where
 abbrev pub roundsUp : ℕ → ℕ → ℕ → ℕ → Bool
 roundsUp rest k keep drop = ltb (2 ^ k) (2 * drop) || (eqb (2 * drop) (2 ^ k) && (not (eqb rest 0) || eqb (keep % 2) 1))
 
--- `main` moved up by `lift` to 51 bits is cut at bit k, into what is kept and what is dropped, so that the kept part counts
--- units of 2^U; below bit 52 nothing of it is kept, so the cut goes no higher.
+-- `main`, moved up by `lift` to a number of 51 bits, is cut at bit k into what is kept and what is dropped. The kept part
+-- counts steps of 2^U units, the spacing of magnitudes there. Where the cut would be above bit 52, nothing is kept at bit
+-- 52 either. If something lies beyond `main`, it is moved up by less than what is dropped.
 pub record Cut (main rest S lift U k keep drop up : ℕ) : Type 0 where
-  pub lift-fits : lift ≤ 50
   pub high : 2 ^ 50 ≤ main * 2 ^ lift
   pub low : main * 2 ^ lift < 2 ^ 51
   pub spacing : U ≡ S - (224 + lift)
   pub place : k ≡ min (U + 251 + lift - S) 52
   pub parts : main * 2 ^ lift ≡ keep * 2 ^ k + drop
-  pub rest-low : drop < 2 ^ k
-  pub exact-lift : (rest ≡ 0 → ⊥) → lift ≤ 26
+  pub drop-fits : drop < 2 ^ k
+  pub lift-fits : (rest ≡ 0 → ⊥) → lift ≤ 26
   pub upward : up ≡ cond (roundsUp rest k keep drop) 1 0
 
 -- The value lies less than 2^24 · 2^S / 2^251 units away from m · 2^26 · 2^S / 2^251.

@@ -1,6 +1,6 @@
 -- The exact result of a step that is rounded: its absolute value in units of 2^(−149), and its place among halves.
 use mathlib.Core.Path.{_≡_}
-use mathlib.Core.Bool.{Bool, cond}
+use mathlib.Core.Bool.{cond}
 use Prim.Native.Nat.{ℕ, min, max, _+_, _-_, _*_, _^_, _<_}
 use Rattle.binary32.specs.Sizes.{size}
 use Rattle.binary32.specs.Words.{magnitudeOf, turnedOf}

@@ -1,6 +1,6 @@
 -- The nearest magnitude to a value, ties to even, and the result of an operation.
 use mathlib.Core.Path.{_≡_}
-use mathlib.Core.Bool.{Bool, true, false, cond, _&&_, _||_}
+use mathlib.Core.Bool.{Bool, cond, _&&_, _||_}
 use Prim.Native.Nat.{ℕ, zero, suc, _+_, _-_, _%_, _^_, _≤_, _<_}
 use lib.Dec.{eqb, ltb, leb}
 use Rattle.binary32.specs.Sizes.{size}
@@ -9,7 +9,7 @@ use Rattle.binary32.specs.Steps.{stepOf}
 use Rattle.binary32.specs.declared.operation.Operation.{Operation}
 use Rattle.binary32.specs.declared.step.Step.{Step}
 use Rattle.binary32.specs.declared.step.Step.the-variants.{Direct, Rounded}
-use Rattle.rounding.specs.Exact.{Value, weight, half, Above, On, Below, exactOf}
+use Rattle.rounding.specs.Exact.{Value, weight, half, On, exactOf}
 
 -- The candidates are the magnitudes from 0 to that of infinity, which stands for 2^128.
 abbrev pub top : ℕ

@@ -1,5 +1,5 @@
 // The nearest binary32 magnitude to an exact result, by its laws.
-ghost use Rattle.rounding.specs.Laws.{Is-nearest, Is-unique, Overflows, Keeps-sizes, Rounds-cut, Keeps-close};
+ghost use Rattle.rounding.specs.Laws.{Is-nearest, Is-unique, Overflows, Keeps-sizes, Rounds-cut, Keeps-close, Rounds-steps};
 
 // The nearest magnitude of a value is nearest to it.
 pub fn nearest_is_nearest() -> u8
@@ -39,6 +39,13 @@ pub fn cuts_round() -> u8
 // A value close to that of a magnitude is rounded to it.
 pub fn close_values_are_kept() -> u8
     ensures { λ _. ⌜ Keeps-close ⌝ }
+{
+    0
+}
+
+// The result of a step that is rounded has the step's sign, and the magnitude nearest to its exact result.
+pub fn steps_round() -> u8
+    ensures { λ _. ⌜ Rounds-steps ⌝ }
 {
     0
 }
