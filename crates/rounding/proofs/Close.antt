@@ -5,7 +5,7 @@ use native.Mathlib.Omega.{arith}
 use native.Mathlib.Nat.{mul-le-mul-right}
 use Rattle.binary32.specs.Sizes.{size}
 use Rattle.binary32.proofs.Sizes.{size-rises}
-use Rattle.rounding.specs.Exact.{Value, Above, Below}
+use Rattle.rounding.specs.Exact.{Value, ratio, Above, Below}
 use Rattle.rounding.specs.Nearest.{middle}
 use Rattle.rounding.specs.Cut.{Close}
 use Rattle.rounding.specs.Laws.{Keeps-close}
@@ -32,3 +32,11 @@ module _ (V : Value) (c m S : ℕ) (normal : 2 ^ 23 ≤ m) (here : size c * 2 ^ 
 pub keeps-close : Keeps-close
 keeps-close V c m S sound within normal here close =
     nearest-is V c sound (from-neighbours V sound c within (reaches V c m S normal here close) (λ _. stays V c m S normal here close))
+
+-- a ratio is close to m · 2^26 · 2^S / 2^251 by its distance, times the divisor
+pub close-ratio : (n d m S : ℕ) → m * 2 ^ 26 * 2 ^ S * d < n * 2 ^ 251 + 2 ^ 24 * 2 ^ S * d → n * 2 ^ 251 < m * 2 ^ 26 * 2 ^ S * d + 2 ^ 24 * 2 ^ S * d → Close (ratio n d) m S
+close-ratio n d m S least most =
+    record {
+      over = λ h within. omega (arith, mul-le-mul-right d within);
+      under = λ h beyond. omega (arith, mul-le-mul-right d beyond);
+    }

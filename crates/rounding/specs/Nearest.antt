@@ -33,7 +33,7 @@ pub record Nearest (V : Value) (m : ℕ) : Type 0 where
 abbrev pub passes : Value → ℕ → Bool
 passes V c = ltb (half V (middle c (suc c))) (weight V) || (eqb (half V (middle c (suc c))) (weight V) && eqb (c % 2) 1)
 
--- `r` with the bits below bit `b` that it has in the number of candidates that the value passes
+-- `r` with its bits below bit `b` filled in, from the highest: each is set if the value passes all that is below the sum.
 unfoldable pub climb : Value → ℕ → ℕ → ℕ
 climb V zero r = r
 climb V (suc b) r = climb V b (cond (leb (r + 2 ^ b) top && passes V (r + 2 ^ b - 1)) (r + 2 ^ b) r)
