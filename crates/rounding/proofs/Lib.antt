@@ -1,0 +1,11 @@
+pub mod Climb
+pub mod Close
+pub mod Cuts
+pub mod Halves
+pub mod Lies
+pub mod Neighbours
+pub mod Overflow
+pub mod Results
+pub mod Scaled
+pub mod Spacing
+pub mod Unique

@@ -1,0 +1,47 @@
+-- What holds of the nearest magnitude.
+use mathlib.Core.Path.{_≡_}
+use mathlib.Core.Bool.{Bool}
+use Prim.Native.Nat.{ℕ, min, _+_, _*_, _^_, _≤_}
+use Rattle.binary32.specs.Sizes.{size}
+use Rattle.binary32.specs.Words.{composed}
+use Rattle.binary32.specs.Steps.{stepOf}
+use Rattle.binary32.specs.declared.operation.Operation.{Operation}
+use Rattle.binary32.specs.declared.step.Exact.{Exact}
+use Rattle.binary32.specs.declared.step.Step.the-variants.{Rounded}
+use Rattle.rounding.specs.Exact.{Value, ratio, Sound, weight, half, exactOf}
+use Rattle.rounding.specs.Nearest.{Nearest, nearest, top, result}
+use Rattle.rounding.specs.Cut.{Lies, Cut, Close}
+
+-- The nearest magnitude of a value is nearest to it.
+abbrev pub Is-nearest : Type 0
+Is-nearest = (V : Value) → Sound V → Nearest V (nearest V)
+
+-- No other is.
+abbrev pub Is-unique : Type 0
+Is-unique = (V : Value) (m n : ℕ) → Sound V → Nearest V m → Nearest V n → m ≡ n
+
+-- From 2^128 up, which is 2^277 units, the nearest magnitude is that of infinity.
+abbrev pub Overflows : Type 0
+Overflows = (V : Value) → Sound V → half V (2 * 2 ^ 277) ≤ weight V → nearest V ≡ top
+
+-- A value that a magnitude has is rounded to it.
+abbrev pub Keeps-sizes : Type 0
+Keeps-sizes = (m : ℕ) → m ≤ top → nearest (ratio (size m) 1) ≡ m
+
+-- A value is rounded by its leading bits alone, and whether anything lies beyond them.
+abbrev pub Rounds-cut : Type 0
+Rounds-cut =
+    (V : Value) (main rest S lift U k keep drop up : ℕ) → Sound V → Lies V main rest S → Cut main rest S lift U k keep drop up →
+    nearest V ≡ min (U * 2 ^ 23 + keep + up) top
+
+-- A magnitude whose size is m · 2^26 · 2^S / 2^251, where m has 24 bits, is nearest to each value close to it: the next sizes
+-- are 2^26 · 2^S / 2^251 away or more, or half of that below a power of two.
+abbrev pub Keeps-close : Type 0
+Keeps-close =
+    (V : Value) (c m S : ℕ) → Sound V → c ≤ top → 2 ^ 23 ≤ m → size c * 2 ^ 251 ≡ m * 2 ^ 26 * 2 ^ S → Close V m S → nearest V ≡ c
+
+-- The result of a step that is rounded has the step's sign, and the magnitude that is nearest to the exact result.
+abbrev pub Rounds-steps : Type 0
+Rounds-steps =
+    (op : Operation) (a b : ℕ) (negative : Bool) (exact : Exact) → stepOf op a b ≡ Rounded negative exact →
+    (m : ℕ) × Nearest (exactOf op a b) m × (result op a b ≡ composed negative m)

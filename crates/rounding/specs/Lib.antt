@@ -1,0 +1,4 @@
+pub mod Cut
+pub mod Exact
+pub mod Laws
+pub mod Nearest
