@@ -4,6 +4,7 @@ use mathlib.Core.Path.{_≡_}
 use mathlib.Core.Bool.{Bool, true, false, cond, not, _&&_, _||_}
 use lib.Dec.{eqb, ltb, leb}
 use lib.Count.{leadingZeros}
+pub use Rattle.rounding.specs.Cut.{roundsUp}
 use Rattle.hints.specs.declared.setting.Setting.{Setting}
 use Rattle.hints.specs.declared.setting.Kind.{Kind}
 use Rattle.hints.specs.declared.setting.Kind.the-variants.{Sum, Difference, Product, Quotient, Root}
@@ -15,11 +16,6 @@ exponentOf scale lift = scale - (224 + lift)
 -- k, the smaller of u + lift − s and 52
 abbrev pub cutOf : ℕ → ℕ → ℕ
 cutOf scale lift = min (exponentOf scale lift + 251 + lift - scale) 52
-
--- up is 1 where what is cut off lies above the middle, or on it and something is left over or keep is odd
-abbrev pub roundsUp : ℕ → ℕ → ℕ → ℕ → Bool
-roundsUp k rest keep drop =
-    ltb (2 ^ k) (2 * drop) || (eqb (2 * drop) (2 ^ k) && (not (eqb rest 0) || eqb (keep % 2) 1))
 
 -- the magnitude of the word, which stops at infinity
 abbrev pub magnitudeFrom : ℕ → ℕ → ℕ → ℕ

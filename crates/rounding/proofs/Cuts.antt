@@ -111,7 +111,7 @@ module _ (V : Value) (main rest S lift U k keep drop : ℕ) (sound : Sound V) (l
   rounds-up : Reaches V (U * 2 ^ 23 + keep) → nearest V ≡ min (suc (U * 2 ^ 23 + keep)) top
   rounds-up reaches = reaches-nearest V sound (U * 2 ^ 23 + keep) from-here below-next reaches
 
-  reaches-by : roundsUp rest k keep drop ≡ true → Reaches V (U * 2 ^ 23 + keep)
+  reaches-by : roundsUp k rest keep drop ≡ true → Reaches V (U * 2 ^ 23 + keep)
   reaches-by upward =
       elim (or-cases (ltb (2 ^ k) (2 * drop)) (eqb (2 * drop) (2 ^ k) && (not (eqb rest 0) || eqb (keep % 2) 1)) upward) [
         | inl more ↦ reaches-more (ltb-true _ _ more)
@@ -128,7 +128,7 @@ module _ (V : Value) (main rest S lift U k keep drop : ℕ) (sound : Sound V) (l
             ]
       ]
 
-  stays-by : roundsUp rest k keep drop ≡ false → Stays V (U * 2 ^ 23 + keep)
+  stays-by : roundsUp k rest keep drop ≡ false → Stays V (U * 2 ^ 23 + keep)
   stays-by downward =
       let halves = or-parts (ltb (2 ^ k) (2 * drop)) (eqb (2 * drop) (2 ^ k) && (not (eqb rest 0) || eqb (keep % 2) 1)) downward in
       let most = ltb-false (2 ^ k) (2 * drop) (halves .0) in
@@ -145,14 +145,14 @@ module _ (V : Value) (main rest S lift U k keep drop : ℕ) (sound : Sound V) (l
             ]
       ]
 
-  rounds : (up : ℕ) → up ≡ cond (roundsUp rest k keep drop) 1 0 → nearest V ≡ min (U * 2 ^ 23 + keep + up) top
+  rounds : (up : ℕ) → up ≡ cond (roundsUp k rest keep drop) 1 0 → nearest V ≡ min (U * 2 ^ 23 + keep + up) top
   rounds up upward =
-      elim (cases-bool (roundsUp rest k keep drop)) [
+      elim (cases-bool (roundsUp k rest keep drop)) [
         | inl upper ↦
-            let one : up ≡ 1 = upward ∙ cond-true (roundsUp rest k keep drop) 1 0 upper in
+            let one : up ≡ 1 = upward ∙ cond-true (roundsUp k rest keep drop) 1 0 upper in
             rounds-up (reaches-by upper) ∙ ap (λ n. min n top) (omega arith)
         | inr lower ↦
-            let none : up ≡ 0 = upward ∙ cond-false (roundsUp rest k keep drop) 1 0 lower in
+            let none : up ≡ 0 = upward ∙ cond-false (roundsUp k rest keep drop) 1 0 lower in
             rounds-down (stays-by lower) ∙ ap (λ n. min n top) (omega arith)
       ]
 
@@ -184,8 +184,8 @@ module _ (V : Value) (main rest S lift U k keep drop up : ℕ) (sound : Sound V)
       let parts : main * 2 ^ lift ≡ keep * 2 ^ 52 + drop = rw at-52 at (cut .parts) in
       let kept : keep ≡ 0 = omega (arith, cut .low) in
       let less : 2 * drop < 2 ^ k = rw at-52 (omega (arith, cut .low)) in
-      let lower : roundsUp rest k keep drop ≡ false = or-from _ _ (le-ltb (2 ^ k) (2 * drop) (omega arith)) (and-left _ _ (ne-eqb (2 * drop) (2 ^ k) (omega arith))) in
-      let level-up : up ≡ 0 = cut .upward ∙ cond-false (roundsUp rest k keep drop) 1 0 lower in
+      let lower : roundsUp k rest keep drop ≡ false = or-from _ _ (le-ltb (2 ^ k) (2 * drop) (omega arith)) (and-left _ _ (ne-eqb (2 * drop) (2 ^ k) (omega arith))) in
+      let level-up : up ≡ 0 = cut .upward ∙ cond-false (roundsUp k rest keep drop) 1 0 lower in
       let whole = U + 251 + lift - S in
       let power : 2 ^ 53 ≤ 2 ^ whole = pow-mono held in
       let level : S + whole ≡ U + 251 + lift = omega arith in

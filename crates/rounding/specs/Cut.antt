@@ -18,7 +18,7 @@ pub record Lies (V : Value) (main rest S : ℕ) : Type 0 where
 -- Of what is dropped, more than half a unit of what is kept rounds up, and so does just half if something lies
 -- beyond it or the kept part is odd.
 abbrev pub roundsUp : ℕ → ℕ → ℕ → ℕ → Bool
-roundsUp rest k keep drop = ltb (2 ^ k) (2 * drop) || (eqb (2 * drop) (2 ^ k) && (not (eqb rest 0) || eqb (keep % 2) 1))
+roundsUp k rest keep drop = ltb (2 ^ k) (2 * drop) || (eqb (2 * drop) (2 ^ k) && (not (eqb rest 0) || eqb (keep % 2) 1))
 
 -- `main`, moved up by `lift` to a number of 51 bits, is cut at bit k into what is kept and what is dropped. The kept part
 -- counts steps of 2^U units, the spacing of magnitudes there. Where the cut would be above bit 52, nothing is kept at bit
@@ -31,7 +31,7 @@ pub record Cut (main rest S lift U k keep drop up : ℕ) : Type 0 where
   pub parts : main * 2 ^ lift ≡ keep * 2 ^ k + drop
   pub drop-fits : drop < 2 ^ k
   pub lift-fits : (rest ≡ 0 → ⊥) → lift ≤ 26
-  pub upward : up ≡ cond (roundsUp rest k keep drop) 1 0
+  pub upward : up ≡ cond (roundsUp k rest keep drop) 1 0
 
 -- The value lies less than 2^24 · 2^S / 2^251 units away from m · 2^26 · 2^S / 2^251.
 pub record Close (V : Value) (m S : ℕ) : Type 0 where
