@@ -1,6 +1,7 @@
 pub mod Climb
 pub mod Close
 pub mod Cuts
+pub mod Describes
 pub mod Halves
 pub mod Lies
 pub mod Neighbours
