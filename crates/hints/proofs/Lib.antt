@@ -1,4 +1,5 @@
 pub mod Backed
+pub mod Complete
 pub mod Correct
 pub mod Lifts
 pub mod Places

@@ -1,17 +1,20 @@
 -- What the writer gives.
+use mathlib.Core.Path.{_≡_}
 use Prim.Native.Nat.{ℕ, _+_, _-_, _*_, _/_, _%_, _^_}
 use mathlib.Core.Bool.{Bool, cond}
 use Rattle.std.specs.declared.option.Option.{Option}
 use Rattle.std.specs.declared.option.Option.the-variants.{Some, None}
 use Rattle.std.specs.declared.result.Result.{Result}
 use Rattle.std.specs.declared.result.Result.the-variants.{Ok, Err}
-use Rattle.binary32.specs.Words.{composed}
+use Rattle.binary32.specs.Words.{signBit, magnitudeOf, composed}
 use Rattle.binary32.specs.Operations.{operationOf}
 use Rattle.binary32.specs.Steps.{stepOf}
 use Rattle.binary32.specs.declared.word.Word.{Word}
 use Rattle.binary32.specs.declared.operation.Operation.{Operation}
 use Rattle.binary32.specs.declared.step.Step.{Step}
 use Rattle.binary32.specs.declared.step.Step.the-variants.{Direct, Rounded}
+use Rattle.rounding.specs.Exact.{Value}
+use Rattle.rounding.specs.Nearest.{Nearest, result}
 use Rattle.hints.specs.Settings.{settingOf}
 use Rattle.hints.specs.Scheme.{principalOf, liftOf, exponentOf, cutOf, roundsUp, magnitudeFrom}
 use Rattle.hints.specs.declared.setting.Setting.{Setting}
@@ -40,13 +43,14 @@ fromPrincipal negative scale main rest =
 abbrev pub roundedWith : Setting → Written
 roundedWith σ = fromPrincipal (σ .negative) (σ .scale) (principalOf σ .0) (principalOf σ .1)
 
--- a direct step has its word and six zeros
+-- the scheme's word and hints; a direct step has its word and six zeros
 abbrev pub writtenFor : Step → Written
 writtenFor (Direct w) = record { word = w; hints = record { main = 0; rest = 0; lift = 0; keep = 0; drop = 0; up = 0 } }
 writtenFor (Rounded negative x) = roundedWith (settingOf negative x)
 
+-- what the writer gives for an operation: its result, with the scheme's hints
 abbrev pub writtenStep : Operation → ℕ → ℕ → Written
-writtenStep op a b = writtenFor (stepOf op a b)
+writtenStep op a b = record { word = record { bits = result op a b }; hints = writtenFor (stepOf op a b) .hints }
 
 abbrev pub writtenBy : Option Operation → ℕ → ℕ → Result Written Refusal
 writtenBy None a b = Err UnknownCode
@@ -55,3 +59,8 @@ writtenBy (Some op) a b = Ok (writtenStep op a b)
 -- the writer's reply to any code and any two words
 abbrev pub written : ℕ → ℕ → ℕ → Result Written Refusal
 written code a b = writtenBy (operationOf code) a b
+
+-- A rounded step's word has the step's sign, and its magnitude is nearest to the exact result, as no other is.
+abbrev pub NearestWord : Step → Value → ℕ → Type 0
+NearestWord (Direct d) V w = w ≡ d .bits
+NearestWord (Rounded negative x) V w = (signBit w ≡ negative) × Nearest V (magnitudeOf w) × ((m : ℕ) → Nearest V m → m ≡ magnitudeOf w)

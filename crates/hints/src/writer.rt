@@ -6,7 +6,8 @@ ghost use Rattle.binary32.specs.Steps.{stepOf};
 ghost use Rattle.hints.specs.Backs.{Backs, BacksStep, BacksReply};
 ghost use Rattle.hints.specs.Settings.{Fit};
 ghost use Rattle.hints.specs.Scheme.{principalOf, exponentOf, cutOf, liftOf, magnitudeFrom};
-ghost use Rattle.hints.specs.Writer.{fromPrincipal, roundedWith, writtenStep, written};
+ghost use Rattle.hints.specs.Writer.{fromPrincipal, roundedWith, writtenStep, written, NearestWord};
+ghost use Rattle.rounding.specs.Exact.{exactOf};
 use crate::leaves::cut;
 use crate::leaves::lifted;
 use crate::leaves::moved_up;
@@ -105,18 +106,32 @@ fn rounded(setting: Setting) -> Written
     filled_from(setting.negative, setting.scale, main, rest)
 }
 
-// The word of an operation on two words, with its hints: six zeros where the step is direct.
-pub fn write_step(operation: Operation, a: Word, b: Word) -> Written
+// The word and the hints of a step that is known.
+fn written_for(operation: Operation, a: Word, b: Word, step: Step) -> Written
+    requires { ⌜ stepOf operation (a .bits) (b .bits) ≡ step ⌝ }
     ensures value { λ r. ⌜ r ≡ writtenStep operation (a .bits) (b .bits) ⌝ }
     ensures backed { λ r. ⌜ BacksStep (stepOf operation (a .bits) (b .bits)) r ⌝ }
+    ensures only { λ r. ⌜ ((w : Written) → BacksStep (stepOf operation (a .bits) (b .bits)) w → w ≡ r) ⌝ }
+    ensures nearest { λ r. ⌜ NearestWord (stepOf operation (a .bits) (b .bits)) (exactOf operation (a .bits) (b .bits)) (r .word .bits) ⌝ }
 {
-    match operation.apply(a, b) {
+    match step {
         Step::Direct(word) => Written {
             word,
             hints: Hints::NONE,
         },
         Step::Rounded { negative, exact } => rounded(Setting::of(negative, exact)),
     }
+}
+
+// The word of an operation on two words, with its hints: six zeros where the step is direct. Nothing else
+// backs the step.
+pub fn write_step(operation: Operation, a: Word, b: Word) -> Written
+    ensures value { λ r. ⌜ r ≡ writtenStep operation (a .bits) (b .bits) ⌝ }
+    ensures backed { λ r. ⌜ BacksStep (stepOf operation (a .bits) (b .bits)) r ⌝ }
+    ensures only { λ r. ⌜ ((w : Written) → BacksStep (stepOf operation (a .bits) (b .bits)) w → w ≡ r) ⌝ }
+    ensures nearest { λ r. ⌜ NearestWord (stepOf operation (a .bits) (b .bits)) (exactOf operation (a .bits) (b .bits)) (r .word .bits) ⌝ }
+{
+    written_for(operation, a, b, operation.apply(a, b))
 }
 
 // The same by the operation's code, which may be none.

@@ -45,3 +45,10 @@ abbrev pub Rounds-steps : Type 0
 Rounds-steps =
     (op : Operation) (a b : ℕ) (negative : Bool) (exact : Exact) → stepOf op a b ≡ Rounded negative exact →
     (m : ℕ) × Nearest (exactOf op a b) m × (result op a b ≡ composed negative m)
+
+-- The laws of the nearest magnitude, together.
+pub record Rounding : Type 0 where
+  pub nearest-is : Is-nearest
+  pub only-one : Is-unique
+  pub beyond-all : Overflows
+  pub kept-sizes : Keeps-sizes
