@@ -15,12 +15,14 @@ use Rattle.binary32.specs.declared.step.Step.the-variants.{Direct, Rounded}
 use Rattle.binary32.proofs.Steps.{step-proper}
 use Rattle.rounding.specs.Exact.{Value, Sound, exactOf}
 use Rattle.rounding.specs.Nearest.{Nearest, top, nearest, result, resultWith}
+use Rattle.rounding.specs.Laws.{Rounding}
 use Rattle.rounding.proofs.Climb.{is-nearest}
+use Rattle.rounding.proofs.Overflow.{overflows, keeps-sizes}
 use Rattle.rounding.proofs.Unique.{unique}
 use Rattle.rounding.proofs.Results.{sound-exact}
 use Rattle.hints.specs.Settings.{settingOf}
 use Rattle.hints.specs.Backs.{Backs, BacksStep, NoHints}
-use Rattle.hints.specs.Writer.{writtenFor, writtenStep, NearestWord}
+use Rattle.hints.specs.Writer.{writtenFor, writtenStep, NearestWord, Right}
 use Rattle.hints.specs.declared.writer.Written.{Written}
 use Rattle.hints.proofs.Backed.{rounded-backs}
 use Rattle.hints.proofs.Correct.{backs-result}
@@ -80,9 +82,7 @@ nearest-written op a b = nearest-for op a b (stepOf op a b) refl
 -- together, of any record that is the scheme's
 pub record Facts (op : Operation) (a b : ℕ) (r : Written) : Type 0 where
   pub value : r ≡ writtenStep op a b
-  pub backed : BacksStep (stepOf op a b) r
-  pub only : (w : Written) → BacksStep (stepOf op a b) w → w ≡ r
-  pub nearest : NearestWord (stepOf op a b) (exactOf op a b) (r .word .bits)
+  pub right : Right op a b r
 
 pub facts : (op : Operation) (a b : ℕ) (r : Written) (step : Step) → stepOf op a b ≡ step → r ≡ writtenFor step → Facts op a b r
 facts op a b r step is scheme =
@@ -91,7 +91,13 @@ facts op a b r step is scheme =
     let backed : BacksStep (stepOf op a b) r = rw same (step-backed op a b) in
     record {
       value = value;
-      backed = backed;
-      only = λ w backs. step-unique (stepOf op a b) w r backs backed;
-      nearest = rw value (nearest-written op a b);
+      right = record {
+        backed = backed;
+        only = λ w backs. step-unique (stepOf op a b) w r backs backed;
+        nearest = rw value (nearest-written op a b);
+      };
     }
+
+-- the laws of the nearest magnitude
+pub rounding : Rounding
+rounding = record { nearest-is = is-nearest; only-one = unique; beyond-all = overflows; kept-sizes = keeps-sizes }

@@ -7,3 +7,4 @@ pub mod Principals
 pub mod Roots
 pub mod Settings
 pub mod Unique
+pub mod Worked

@@ -2,13 +2,7 @@
 use Prim.Native.Nat.{ℕ, _+_, _-_, _*_, _^_, _≤_, _<_}
 use mathlib.Core.Path.{_≡_}
 use mathlib.Core.Bool.{cond}
-use Rattle.std.specs.declared.option.Option.{Option}
-use Rattle.std.specs.declared.option.Option.the-variants.{Some, None}
-use Rattle.std.specs.declared.result.Result.{Result}
-use Rattle.std.specs.declared.result.Result.the-variants.{Ok, Err}
 use Rattle.binary32.specs.Words.{composed}
-use Rattle.binary32.specs.Steps.{stepOf}
-use Rattle.binary32.specs.declared.operation.Operation.{Operation}
 use Rattle.binary32.specs.declared.step.Step.{Step}
 use Rattle.binary32.specs.declared.step.Step.the-variants.{Direct, Rounded}
 use Rattle.hints.specs.Settings.{settingOf}
@@ -18,7 +12,6 @@ use Rattle.hints.specs.declared.setting.Kind.{Kind}
 use Rattle.hints.specs.declared.setting.Kind.the-variants.{Sum, Difference, Product, Quotient, Root}
 use Rattle.hints.specs.declared.writer.Hints.{Hints}
 use Rattle.hints.specs.declared.writer.Written.{Written}
-use Rattle.hints.specs.declared.refusal.Refusal.{Refusal}
 
 -- rest is below this: 0 in a sum and a product, below the divisor, at most twice the root
 abbrev pub restLimit : Kind → ℕ → ℕ → ℕ
@@ -63,10 +56,3 @@ pub record NoHints (h : Hints) : Type 0 where
 abbrev pub BacksStep : Step → Written → Type 0
 BacksStep (Direct d) w = (w .word ≡ d) × NoHints (w .hints)
 BacksStep (Rounded negative x) w = Backs (settingOf negative x) w
-
--- the reply is a refusal where there is no operation, and else backs its step
-abbrev pub BacksReply : Option Operation → ℕ → ℕ → Result Written Refusal → Type 0
-BacksReply None a b (Ok w) = ⊥
-BacksReply None a b (Err e) = Unit {0}
-BacksReply (Some op) a b (Ok w) = BacksStep (stepOf op a b) w
-BacksReply (Some op) a b (Err e) = ⊥

@@ -2,4 +2,5 @@ pub mod Backs
 pub mod Refusals
 pub mod Scheme
 pub mod Settings
+pub mod Worked
 pub mod Writer

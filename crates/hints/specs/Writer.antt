@@ -13,8 +13,9 @@ use Rattle.binary32.specs.declared.word.Word.{Word}
 use Rattle.binary32.specs.declared.operation.Operation.{Operation}
 use Rattle.binary32.specs.declared.step.Step.{Step}
 use Rattle.binary32.specs.declared.step.Step.the-variants.{Direct, Rounded}
-use Rattle.rounding.specs.Exact.{Value}
+use Rattle.rounding.specs.Exact.{Value, exactOf}
 use Rattle.rounding.specs.Nearest.{Nearest, result}
+use Rattle.hints.specs.Backs.{BacksStep}
 use Rattle.hints.specs.Settings.{settingOf}
 use Rattle.hints.specs.Scheme.{principalOf, liftOf, exponentOf, cutOf, roundsUp, magnitudeFrom}
 use Rattle.hints.specs.declared.setting.Setting.{Setting}
@@ -64,3 +65,16 @@ written code a b = writtenBy (operationOf code) a b
 abbrev pub NearestWord : Step → Value → ℕ → Type 0
 NearestWord (Direct d) V w = w ≡ d .bits
 NearestWord (Rounded negative x) V w = (signBit w ≡ negative) × Nearest V (magnitudeOf w) × ((m : ℕ) → Nearest V m → m ≡ magnitudeOf w)
+
+-- What a written step keeps: it backs the step, nothing else does, and its word is nearest to the exact result.
+pub record Right (op : Operation) (a b : ℕ) (r : Written) : Type 0 where
+  pub backed : BacksStep (stepOf op a b) r
+  pub only : (w : Written) → BacksStep (stepOf op a b) w → w ≡ r
+  pub nearest : NearestWord (stepOf op a b) (exactOf op a b) (r .word .bits)
+
+-- the reply is a refusal where there is no operation, and right where there is one
+abbrev pub RightReply : Option Operation → ℕ → ℕ → Result Written Refusal → Type 0
+RightReply None a b (Ok w) = ⊥
+RightReply None a b (Err e) = Unit {0}
+RightReply (Some op) a b (Ok w) = Right op a b w
+RightReply (Some op) a b (Err e) = ⊥

@@ -3,11 +3,12 @@ ghost use mathlib.Core.Path.{_≡_};
 ghost use Prim.Native.Nat.{_+_, _-_, _*_, _^_, _<_, _≤_};
 ghost use Rattle.binary32.specs.Operations.{operationOf};
 ghost use Rattle.binary32.specs.Steps.{stepOf};
-ghost use Rattle.hints.specs.Backs.{Backs, BacksStep, BacksReply};
+ghost use Rattle.hints.specs.Backs.{Backs};
 ghost use Rattle.hints.specs.Settings.{Fit};
 ghost use Rattle.hints.specs.Scheme.{principalOf, exponentOf, cutOf, liftOf, magnitudeFrom};
-ghost use Rattle.hints.specs.Writer.{fromPrincipal, roundedWith, writtenStep, written, NearestWord};
-ghost use Rattle.rounding.specs.Exact.{exactOf};
+ghost use Rattle.hints.specs.Writer.{fromPrincipal, roundedWith, writtenStep, written, Right, RightReply};
+ghost use Rattle.hints.specs.Worked.{Worked};
+ghost use Rattle.rounding.specs.Laws.{Rounding};
 use crate::leaves::cut;
 use crate::leaves::lifted;
 use crate::leaves::moved_up;
@@ -110,9 +111,9 @@ fn rounded(setting: Setting) -> Written
 fn written_for(operation: Operation, a: Word, b: Word, step: Step) -> Written
     requires { ⌜ stepOf operation (a .bits) (b .bits) ≡ step ⌝ }
     ensures value { λ r. ⌜ r ≡ writtenStep operation (a .bits) (b .bits) ⌝ }
-    ensures backed { λ r. ⌜ BacksStep (stepOf operation (a .bits) (b .bits)) r ⌝ }
-    ensures only { λ r. ⌜ ((w : Written) → BacksStep (stepOf operation (a .bits) (b .bits)) w → w ≡ r) ⌝ }
-    ensures nearest { λ r. ⌜ NearestWord (stepOf operation (a .bits) (b .bits)) (exactOf operation (a .bits) (b .bits)) (r .word .bits) ⌝ }
+    ensures right { λ r. ⌜ Right operation (a .bits) (b .bits) r ⌝ }
+    ensures rounding { λ _. ⌜ Rounding ⌝ }
+    ensures worked { λ _. ⌜ Worked ⌝ }
 {
     match step {
         Step::Direct(word) => Written {
@@ -123,13 +124,14 @@ fn written_for(operation: Operation, a: Word, b: Word, step: Step) -> Written
     }
 }
 
-// The word of an operation on two words, with its hints: six zeros where the step is direct. Nothing else
-// backs the step.
+// The word of an operation on two words, with its hints: six zeros where the step is direct. It is right:
+// its hints back it, nothing else backs the step, and the word is the correctly rounded one. The last two
+// clauses speak of the definitions: the laws of the nearest word, and steps worked out by hand.
 pub fn write_step(operation: Operation, a: Word, b: Word) -> Written
     ensures value { λ r. ⌜ r ≡ writtenStep operation (a .bits) (b .bits) ⌝ }
-    ensures backed { λ r. ⌜ BacksStep (stepOf operation (a .bits) (b .bits)) r ⌝ }
-    ensures only { λ r. ⌜ ((w : Written) → BacksStep (stepOf operation (a .bits) (b .bits)) w → w ≡ r) ⌝ }
-    ensures nearest { λ r. ⌜ NearestWord (stepOf operation (a .bits) (b .bits)) (exactOf operation (a .bits) (b .bits)) (r .word .bits) ⌝ }
+    ensures right { λ r. ⌜ Right operation (a .bits) (b .bits) r ⌝ }
+    ensures rounding { λ _. ⌜ Rounding ⌝ }
+    ensures worked { λ _. ⌜ Worked ⌝ }
 {
     written_for(operation, a, b, operation.apply(a, b))
 }
@@ -137,7 +139,7 @@ pub fn write_step(operation: Operation, a: Word, b: Word) -> Written
 // The same by the operation's code, which may be none.
 pub fn write_word(code: u32, a: Word, b: Word) -> Result<Written, Refusal>
     ensures value { λ r. ⌜ r ≡ written code (a .bits) (b .bits) ⌝ }
-    ensures backed { λ r. ⌜ BacksReply (operationOf code) (a .bits) (b .bits) r ⌝ }
+    ensures right { λ r. ⌜ RightReply (operationOf code) (a .bits) (b .bits) r ⌝ }
 {
     match Operation::from_code(code) {
         None => Err(Refusal::UnknownCode),

@@ -3,8 +3,9 @@ use Rattle.binary32.specs.Normal.{ProperStep}
 use Rattle.binary32.specs.Steps.{stepOf}
 use Rattle.binary32.proofs.Steps.{step-proper}
 use Rattle.hints.specs.Writer.{roundedWith}
-use Rattle.hints.proofs.Complete.{Facts, facts}
+use Rattle.hints.proofs.Complete.{Facts, facts, rounding}
 use Rattle.hints.proofs.Settings.{setting-fits}
+use Rattle.hints.proofs.Worked.{worked}
 use Rattle.hints.proofs.writer.written_for.Needs as need
 
 -- the exact result of a rounded step is proper
@@ -21,10 +22,10 @@ rounded-requires c κs =
 pub returns-in-Direct : need.returns-in-Direct
 returns-in-Direct c =
     let known = facts (c .args .operation) (c .args .a .bits) (c .args .b .bits) _ _ (c .pre ∙ c .in-Direct .is) refl in
-    record { value = known .value; backed = known .backed; only = known .only; nearest = known .nearest }
+    record { value = known .value; right = known .right; rounding = rounding; worked = worked }
 
 pub returns-in-Rounded : need.returns-in-Rounded
 returns-in-Rounded c =
     let is : c .rounded .result ≡ roundedWith _ = c .rounded .ensures .value ∙ ap roundedWith (c .of .ensures) in
     let known = facts (c .args .operation) (c .args .a .bits) (c .args .b .bits) _ _ (c .pre ∙ c .in-Rounded .is) is in
-    record { value = known .value; backed = known .backed; only = known .only; nearest = known .nearest }
+    record { value = known .value; right = known .right; rounding = rounding; worked = worked }
