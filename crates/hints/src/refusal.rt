@@ -6,6 +6,10 @@ ghost use Rattle.hints.specs.Refusals.{numberOf, layerOf};
 #[derive(Clone, Copy, PartialEq, Eq, Debug)]
 pub enum Layer {
     Writer,
+    Sheet,
+    Hints,
+    Equations,
+    Word,
 }
 
 #[derive(Clone, Copy, PartialEq, Eq, Debug)]
