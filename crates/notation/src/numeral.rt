@@ -1,0 +1,62 @@
+// Words as eight hexadecimal digits with capitals.
+ghost use mathlib.Core.Path.{_≡_};
+ghost use Prim.Native.Nat.{_<_};
+ghost use mathlib.Core.List.{map};
+ghost use lib.ListN.{take};
+ghost use Rattle.std.specs.shelf.Digits.{number};
+ghost use Rattle.std.specs.shelf.Lists.{leading};
+ghost use Rattle.notation.specs.Numerals.{digitOf, codeOf, isDigit, valueOf, wordOf};
+use binary32::Word;
+
+// The value of a digit, 0 to 9 and A to F. Any other byte is none.
+pub fn digit(byte: u8) -> Option<u32>
+    ensures { λ r. ⌜ r ≡ digitOf byte ⌝ }
+{
+    match byte {
+        b'0'..=b'9' => Some((byte - b'0') as u32),
+        b'A'..=b'F' => Some((byte - b'A') as u32 + 10),
+        _ => None,
+    }
+}
+
+// The digit of a value below sixteen.
+fn capital(value: u32) -> u8
+    requires { ⌜ value < 16 ⌝ }
+    ensures { λ r. ⌜ r ≡ codeOf value ⌝ }
+{
+    if value < 10 {
+        b'0' + value as u8
+    } else {
+        b'A' + (value - 10) as u8
+    }
+}
+
+// How many digits the text begins with, of the eight that a word has, and the number that they write.
+fn front(text: &[u8]) -> (usize, u32)
+    ensures count { λ r. ⌜ r .0 ≡ leading isDigit (take 8 (now (text .entry))) ⌝ }
+    ensures number { λ r. ⌜ r .1 ≡ number 16 (map valueOf (take (r .0) (now (text .entry)))) ⌝ }
+{
+    let mut bits = 0;
+    for i in 0..8 {
+        if i >= text.len() {
+            return (i, bits);
+        }
+        match digit(text[i]) {
+            Some(d) => bits = bits * 16 + d,
+            None => return (i, bits),
+        }
+    }
+    (8, bits)
+}
+
+// The word that the text begins with. Where it begins with fewer than eight digits, how many those are.
+pub fn read_word(text: &[u8]) -> Result<Word, usize>
+    ensures { λ r. ⌜ r ≡ wordOf (now (text .entry)) ⌝ }
+{
+    let (count, bits) = front(text);
+    if count == 8 {
+        Ok(Word { bits })
+    } else {
+        Err(count)
+    }
+}
