@@ -5,7 +5,7 @@ use mathlib.Core.List.{List, [], _∷_, map}
 use Prim.Native.Nat.{ℕ, _+_, _*_, _^_, _<_, _≤_}
 use native.Mathlib.Omega.{arith}
 use lib.ListN.{length, getD, take, drop}
-use lib.Pow.{pow-mono}
+use native.Mathlib.Nat.{lt-of-lt-of-le, pow-le-pow-right, zero-lt-suc}
 use Rattle.std.specs.shelf.Digits.{number, Under}
 use Rattle.std.specs.shelf.Lists.{leading}
 use Rattle.std.proofs.shelf.Digits.{number-lt, number-push}
@@ -23,7 +23,9 @@ values-small (code ∷ text) = (value-small code, values-small text)
 
 -- seven digits write less than 2^28
 pub number-small : (text : List ℕ) (i : ℕ) → i < 8 → number 16 (map valueOf (take i text)) < 2 ^ 28
-number-small text i few = ?
+number-small text i few =
+    let short : length (map valueOf (take i text)) ≤ 7 = simp (length-map, length-take) (omega arith) in
+    lt-of-lt-of-le (number-lt 16 (map valueOf (take i text)) (values-small (take i text))) (pow-le-pow-right {n = 16} (zero-lt-suc 15) short)
 
 module _ (text : List ℕ) (i : ℕ) (within : i < 8) (there : i < length text) where
   at : getD (take 8 text) i 0 ≡ getD text i 0

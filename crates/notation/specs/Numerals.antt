@@ -39,8 +39,11 @@ wordOf text =
 abbrev pub codeOf : ℕ → ℕ
 codeOf value = cond (ltb value 10) (48 + value) (55 + value)
 
--- the eight digits of a word, the highest first
+-- the values of the eight digits of a word, the highest first
+abbrev pub placesOf : ℕ → List ℕ
+placesOf bits =
+    bits / 16 ^ 7 % 16 ∷ bits / 16 ^ 6 % 16 ∷ bits / 16 ^ 5 % 16 ∷ bits / 16 ^ 4 % 16
+    ∷ bits / 16 ^ 3 % 16 ∷ bits / 16 ^ 2 % 16 ∷ bits / 16 % 16 ∷ bits % 16 ∷ []
+
 abbrev pub digitsOf : ℕ → List ℕ
-digitsOf bits =
-    codeOf (bits / 16 ^ 7 % 16) ∷ codeOf (bits / 16 ^ 6 % 16) ∷ codeOf (bits / 16 ^ 5 % 16) ∷ codeOf (bits / 16 ^ 4 % 16)
-    ∷ codeOf (bits / 16 ^ 3 % 16) ∷ codeOf (bits / 16 ^ 2 % 16) ∷ codeOf (bits / 16 % 16) ∷ codeOf (bits % 16) ∷ []
+digitsOf bits = map codeOf (placesOf bits)

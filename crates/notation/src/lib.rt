@@ -5,4 +5,5 @@ mod numeral;
 pub use name::name_of;
 pub use name::operation_named;
 pub use numeral::digit;
+pub use numeral::digits;
 pub use numeral::read_word;

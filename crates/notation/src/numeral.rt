@@ -5,7 +5,8 @@ ghost use mathlib.Core.List.{map};
 ghost use lib.ListN.{take};
 ghost use Rattle.std.specs.shelf.Digits.{number};
 ghost use Rattle.std.specs.shelf.Lists.{leading};
-ghost use Rattle.notation.specs.Numerals.{digitOf, codeOf, isDigit, valueOf, wordOf};
+ghost use Rattle.std.specs.declared.result.Result.the-variants.{Ok};
+ghost use Rattle.notation.specs.Numerals.{digitOf, codeOf, isDigit, valueOf, wordOf, placesOf, digitsOf};
 use binary32::Word;
 
 // The value of a digit, 0 to 9 and A to F. Any other byte is none.
@@ -59,4 +60,40 @@ pub fn read_word(text: &[u8]) -> Result<Word, usize>
     } else {
         Err(count)
     }
+}
+
+// The values of the eight digits of a word, the highest first.
+fn places(word: Word) -> [u32; 8]
+    ensures value { λ r. ⌜ r ≡ placesOf (word .bits) ⌝ }
+    ensures read { λ r. ⌜ wordOf (map codeOf r) ≡ Ok word ⌝ }
+{
+    let bits = word.bits;
+    [
+        bits / 0x1000_0000 % 16,
+        bits / 0x100_0000 % 16,
+        bits / 0x10_0000 % 16,
+        bits / 0x1_0000 % 16,
+        bits / 0x1000 % 16,
+        bits / 0x100 % 16,
+        bits / 0x10 % 16,
+        bits % 16,
+    ]
+}
+
+// The eight digits of a word, from which it is read again.
+pub fn digits(word: Word) -> [u8; 8]
+    ensures value { λ r. ⌜ r ≡ digitsOf (word .bits) ⌝ }
+    ensures read { λ r. ⌜ wordOf r ≡ Ok word ⌝ }
+{
+    let [a, b, c, d, e, f, g, h] = places(word);
+    [
+        capital(a),
+        capital(b),
+        capital(c),
+        capital(d),
+        capital(e),
+        capital(f),
+        capital(g),
+        capital(h),
+    ]
 }
