@@ -1,8 +1,9 @@
 // Words as eight hexadecimal digits with capitals.
 ghost use mathlib.Core.Path.{_≡_};
-ghost use Prim.Native.Nat.{_<_};
+ghost use Prim.Native.Nat.{_<_, _≤_};
 ghost use mathlib.Core.List.{map};
-ghost use lib.ListN.{take};
+ghost use lib.ListN.{length, take};
+ghost use Rattle.std.specs.Results.{Cases};
 ghost use Rattle.std.specs.shelf.Digits.{number};
 ghost use Rattle.std.specs.shelf.Lists.{leading};
 ghost use Rattle.std.specs.declared.result.Result.the-variants.{Ok};
@@ -35,6 +36,7 @@ fn capital(value: u32) -> u8
 // How many digits the text begins with, of the eight that a word has, and the number that they write.
 fn front(text: &[u8]) -> (usize, u32)
     ensures count { λ r. ⌜ r .0 ≡ leading isDigit (take 8 (now (text .entry))) ⌝ }
+    ensures bound { λ r. ⌜ r .0 ≤ length (now (text .entry)) ⌝ }
     ensures number { λ r. ⌜ r .1 ≡ number 16 (map valueOf (take (r .0) (now (text .entry)))) ⌝ }
 {
     let mut bits = 0;
@@ -52,7 +54,8 @@ fn front(text: &[u8]) -> (usize, u32)
 
 // The word that the text begins with. Where it begins with fewer than eight digits, how many those are.
 pub fn read_word(text: &[u8]) -> Result<Word, usize>
-    ensures { λ r. ⌜ r ≡ wordOf (now (text .entry)) ⌝ }
+    ensures value { λ r. ⌜ r ≡ wordOf (now (text .entry)) ⌝ }
+    ensures within { λ r. ⌜ Cases r (λ _. 8 ≤ length (now (text .entry))) (λ count. count ≤ length (now (text .entry))) ⌝ }
 {
     let (count, bits) = front(text);
     if count == 8 {

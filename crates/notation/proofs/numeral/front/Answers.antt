@@ -19,7 +19,7 @@ pub returns-then-i-text : need.returns-then-i-text
 returns-then-i-text c =
     let all : length (take 8 (c .args .text .now)) ≤ c .loop-i .i = simp length-take (omega arith) in
     let end = leading-drop-all isDigit (take 8 (c .args .text .now)) (c .loop-i .i) all in
-    record { count = omega (arith, end); number = c .loop-i .inv .1 }
+    record { count = omega (arith, end); bound = omega arith; number = c .loop-i .inv .1 }
 
 pub mul-bits : need.mul-bits
 mul-bits c =
@@ -36,7 +36,7 @@ pub returns-in-None : need.returns-in-None
 returns-in-None c =
     let few : c .loop-i .i < 8 = omega arith in
     let stops = front-stops (c .args .text .now) (c .loop-i .i) few (c .if-i-text .left) (sym (ap isSome (c .in-None .ensures tt))) in
-    record { count = omega (arith, stops); number = c .loop-i .inv .1 }
+    record { count = omega (arith, stops); bound = omega arith; number = c .loop-i .inv .1 }
 
 pub loop-i-again : need.loop-i-again
 loop-i-again c =
@@ -44,11 +44,11 @@ loop-i-again c =
     let value : c .in-Some .d ≡ valueOf (getD (c .args .text .now) (c .loop-i .i) 0) = ap (λ o. valueOr o 0) (c .in-Some .ensures tt) in
     let longer = front-more (c .args .text .now) (c .loop-i .i) few (c .if-i-text .left) (sym (ap isSome (c .in-Some .ensures tt))) in
     let larger = number-more (c .args .text .now) (c .loop-i .i) few (c .if-i-text .left) in
-    (omega (arith, longer), omega (arith, larger))
+    (omega (arith, longer), omega (arith, larger), omega arith)
 
 pub returns : need.returns
 returns c =
     let all : length (take 8 (c .args .text .now)) ≤ c .loop-i .i = simp length-take (omega arith) in
     let end = leading-drop-all isDigit (take 8 (c .args .text .now)) (c .loop-i .i) all in
     let eight : c .loop-i .i ≡ 8 = omega arith in
-    record { count = omega (arith, end); number = subst (λ k. c .loop-i .bits ≡ number 16 (map valueOf (take k (c .args .text .now)))) eight (c .loop-i .inv .1) }
+    record { count = omega (arith, end); bound = omega arith; number = subst (λ k. c .loop-i .bits ≡ number 16 (map valueOf (take k (c .args .text .now)))) eight (c .loop-i .inv .1) }

@@ -1,7 +1,7 @@
-use Prim.Native.Nat.{_+_}
+use Prim.Native.Nat.{_+_, _≤_}
 use mathlib.Core.Path.{_≡_}
 use mathlib.Core.List.{map}
-use lib.ListN.{take, drop}
+use lib.ListN.{length, take, drop}
 use Rattle.std.specs.shelf.Digits.{number}
 use Rattle.std.specs.shelf.Lists.{leading}
 use Rattle.notation.specs.Numerals.{isDigit, valueOf}
@@ -11,3 +11,4 @@ abbrev pub Inv-loop-i : given.InvT-loop-i
 Inv-loop-i l =
     (leading isDigit (take 8 (l .text)) ≡ l .i + leading isDigit (drop (l .i) (take 8 (l .text))))
     × (l .bits ≡ number 16 (map valueOf (take (l .i) (l .text))))
+    × (l .i ≤ length (l .text))
