@@ -7,7 +7,7 @@ use lib.ListN.{getD, drop}
 use Rattle.std.specs.declared.result.Result.{Result}
 use Rattle.std.specs.declared.result.Result.the-variants.{Ok, Err}
 use Rattle.binary32.specs.declared.word.Word.{Word}
-use Rattle.notation.specs.declared.line.Fault.the-variants.{MissingWord}
+use Rattle.notation.specs.declared.fault.Fault.the-variants.{MissingWord}
 use Rattle.notation.specs.Numerals.{wordOf}
 use Rattle.notation.specs.Lines.{isSpace, placed, operandAt}
 

@@ -17,8 +17,8 @@ use Rattle.binary32.specs.declared.word.Word.{Word}
 use Rattle.notation.specs.Names.{operationNamed}
 use Rattle.notation.specs.Numerals.{wordOf}
 use Rattle.notation.specs.declared.line.Request.{Request}
-use Rattle.notation.specs.declared.line.Fault.{Fault}
-use Rattle.notation.specs.declared.line.Fault.the-variants.{UnknownOperation, MissingWord, BadDigit, TrailingText}
+use Rattle.notation.specs.declared.fault.Fault.{Fault}
+use Rattle.notation.specs.declared.fault.Fault.the-variants.{UnknownOperation, MissingWord, BadDigit, TrailingText}
 
 -- a space has the code 32
 abbrev pub isSpace : ℕ → Bool

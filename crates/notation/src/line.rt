@@ -4,11 +4,11 @@ ghost use Prim.Native.Nat.{_+_, _≤_};
 ghost use lib.ListN.{length};
 ghost use Rattle.std.specs.Vec.{made};
 ghost use Rattle.notation.specs.Lines.{nameEnd, isRoot, operandAt, endAt, operandsOf, readStep};
-use binary32::Operation;
-use binary32::Word;
+use crate::fault::Fault;
 use crate::name::operation_named;
 use crate::numeral::read_word;
-use std::fmt;
+use binary32::Operation;
+use binary32::Word;
 
 // An operation on words. The second word of a square root is zero.
 #[derive(Clone, Copy)]
@@ -16,19 +16,6 @@ pub struct Request {
     pub operation: Operation,
     pub first: Word,
     pub second: Word,
-}
-
-// What is wrong with a line, and in which column, counted from 1.
-#[derive(Clone, Copy, PartialEq, Eq, Debug)]
-pub enum Fault {
-    // What stands before the first space is no operation's name.
-    UnknownOperation,
-    // No space stands here, where a word should follow.
-    MissingWord { column: usize },
-    // No digit stands here, within a word.
-    BadDigit { column: usize },
-    // The line goes on here, after its last value.
-    TrailingText { column: usize },
 }
 
 // Where the name ends: at the first space, or at the line's end.
@@ -89,10 +76,26 @@ fn operands(line: &[u8], at: usize, operation: Operation) -> Result<Request, Fau
     let next = at + 9;
     if is_root(operation) {
         let second = Word::ZERO;
-        return finished(line, next, Request { operation, first, second });
+        return finished(
+            line,
+            next,
+            Request {
+                operation,
+                first,
+                second,
+            },
+        );
     }
     let second = operand(line, next)?;
-    finished(line, next + 9, Request { operation, first, second })
+    finished(
+        line,
+        next + 9,
+        Request {
+            operation,
+            first,
+            second,
+        },
+    )
 }
 
 pub fn read_step(line: &[u8]) -> Result<Request, Fault>
@@ -102,23 +105,5 @@ pub fn read_step(line: &[u8]) -> Result<Request, Fault>
     match operation_named(&line[0..end]) {
         Some(operation) => operands(line, end, operation),
         None => Err(Fault::UnknownOperation),
-    }
-}
-
-pub impl fmt::Display for Fault as FaultDisplay {
-    fn fmt<W: fmt::Write>(&self, f: &mut fmt::Formatter<W>) -> fmt::Result {
-        match self {
-            Fault::UnknownOperation => write!(f, "column 1: no operation has this name"),
-            Fault::MissingWord { column } => {
-                write!(f, "column {column}: a space and a word should stand here")
-            }
-            Fault::BadDigit { column } => write!(
-                f,
-                "column {column}: a word has eight hexadecimal digits with capitals"
-            ),
-            Fault::TrailingText { column } => {
-                write!(f, "column {column}: the line should end here")
-            }
-        }
     }
 }

@@ -15,9 +15,10 @@ use Rattle.notation.proofs.line.operand.Needs.{then-at-line·by·then-at-line,
 pub returns-then-at-line : need.returns-then-at-line
 returns-then-at-line c =
     let none : isSpace (getD (c .args .line .now) (c .args .at) 0) ≡ false =
-        elim (c .then-at-line .came)
-        [ then-at-line·by·then-at-line w ↦ ap isSpace (getD-past (c .args .line .now) (c .args .at) 0 (omega (arith, w .if-at-line .taken)))
-        | then-at-line·by·else-at-line·then-line-at-ne32 w ↦ ne-eqb (getD (c .args .line .now) (c .args .at) 0) 32 (w .if-line-at-ne32 .taken) ] in
+    elim (c .then-at-line .came) [
+      | then-at-line·by·then-at-line w ↦ ap isSpace (getD-past (c .args .line .now) (c .args .at) 0 (omega (arith, w .if-at-line .taken)))
+      | then-at-line·by·else-at-line·then-line-at-ne32 w ↦ ne-eqb (getD (c .args .line .now) (c .args .at) 0) 32 (w .if-line-at-ne32 .taken)
+    ] in
     record { value = missing (c .args .line .now) (c .args .at) none; within = tt }
 
 pub returns-in-Ok : need.returns-in-Ok
@@ -27,7 +28,8 @@ returns-in-Ok c =
     let within : 8 ≤ length (drop (c .args .at + 1) (c .args .line .now)) = rw text at (c .in-Ok .ensures tt .within) in
     record {
       value = found (c .args .line .now) (c .args .at) _ space (c .in-Ok .ensures tt .value ∙ ap wordOf text);
-      within = omega (arith, within, length-drop (c .args .at + 1) (c .args .line .now)) }
+      within = omega (arith, within, length-drop (c .args .at + 1) (c .args .line .now));
+    }
 
 pub returns-in-Err : need.returns-in-Err
 returns-in-Err c =
