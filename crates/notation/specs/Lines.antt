@@ -1,8 +1,9 @@
 -- A step as a line: the operation's name, then a space and eight digits for each operand, then the end.
 -- Indices count from 0 and columns from 1.
-use Prim.Native.Nat.{ℕ, _+_}
+use Prim.Native.Nat.{ℕ, _+_, _^_, _<_}
+use mathlib.Core.Path.{_≡_}
 use mathlib.Core.Bool.{Bool, cond, not}
-use mathlib.Core.List.{List}
+use mathlib.Core.List.{List, [], _∷_, _++_}
 use lib.Dec.{eqb}
 use lib.ListN.{length, getD, take, drop}
 use Rattle.std.specs.shelf.Lists.{leading}
@@ -14,8 +15,8 @@ use Rattle.binary32.specs.Operations.{codeOf}
 use Rattle.binary32.specs.declared.operation.Operation.{Operation}
 use Rattle.binary32.specs.declared.operation.Operation.the-variants.{SquareRoot}
 use Rattle.binary32.specs.declared.word.Word.{Word}
-use Rattle.notation.specs.Names.{operationNamed}
-use Rattle.notation.specs.Numerals.{wordOf}
+use Rattle.notation.specs.Names.{nameOf, operationNamed}
+use Rattle.notation.specs.Numerals.{wordOf, digitsOf}
 use Rattle.notation.specs.declared.line.Request.{Request}
 use Rattle.notation.specs.declared.fault.Fault.{Fault}
 use Rattle.notation.specs.declared.fault.Fault.the-variants.{UnknownOperation, MissingWord, BadDigit, TrailingText}
@@ -71,3 +72,18 @@ afterName line end (Some operation) = operandsOf line end operation
 
 abbrev pub readStep : List ℕ → Result Request Fault
 readStep line = afterName line (nameEnd line) (operationNamed (take (nameEnd line) line))
+
+-- A step written as a line. A root's second operand is not written, and is read as zero.
+abbrev pub lineOf : Operation → Word → Word → List ℕ
+lineOf operation first second =
+    nameOf operation ++ (32 ∷ digitsOf (first .bits) ++ cond (isRoot operation) [] (32 ∷ digitsOf (second .bits)))
+
+abbrev pub requestOf : Operation → Word → Word → Request
+requestOf operation first second =
+    record { operation = operation; first = first; second = cond (isRoot operation) (record { bits = 0 }) second }
+
+-- a line that a step is written as is read as that step
+abbrev pub ReadsBack : List ℕ → Result Request Fault → Type 0
+ReadsBack line read =
+    (operation : Operation) (first second : Word) → first .bits < 2 ^ 32 → second .bits < 2 ^ 32
+    → line ≡ lineOf operation first second → read ≡ Ok (requestOf operation first second)

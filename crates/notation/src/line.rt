@@ -3,7 +3,7 @@ ghost use mathlib.Core.Path.{_≡_};
 ghost use Prim.Native.Nat.{_+_, _≤_};
 ghost use lib.ListN.{length};
 ghost use Rattle.std.specs.Vec.{made};
-ghost use Rattle.notation.specs.Lines.{nameEnd, isRoot, operandAt, endAt, operandsOf, readStep};
+ghost use Rattle.notation.specs.Lines.{nameEnd, isRoot, operandAt, endAt, operandsOf, readStep, ReadsBack};
 use crate::fault::Fault;
 use crate::name::operation_named;
 use crate::numeral::read_word;
@@ -98,9 +98,17 @@ fn operands(line: &[u8], at: usize, operation: Operation) -> Result<Request, Fau
     )
 }
 
+// The law of lines: one that a step is written as is read as that step. There is nothing to do.
+fn reads_back(line: &[u8])
+    ensures { λ _. ⌜ ReadsBack (now (line .entry)) (readStep (now (line .entry))) ⌝ }
+{}
+
+// The step of a line, or what is wrong with the line. A written step is read back.
 pub fn read_step(line: &[u8]) -> Result<Request, Fault>
-    ensures { λ r. ⌜ r ≡ readStep (now (line .entry)) ⌝ }
+    ensures value { λ r. ⌜ r ≡ readStep (now (line .entry)) ⌝ }
+    ensures read { λ r. ⌜ ReadsBack (now (line .entry)) r ⌝ }
 {
+    reads_back(line);
     let end = name_end(line);
     match operation_named(&line[0..end]) {
         Some(operation) => operands(line, end, operation),
