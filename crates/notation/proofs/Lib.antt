@@ -1,0 +1,4 @@
+pub mod Lines
+pub mod Operands
+pub mod Reading
+pub mod Written
