@@ -113,13 +113,13 @@ no-hints h none =
     }
 
 pub hints-none : (h : Hints) → NoHints h → someHint h ≡ None
-hints-none h no =
-    none-unless (eqb (h .main) 0) 1 _ (eq-eqb _ _ (no .no-main))
-    (none-unless (eqb (h .rest) 0) 2 _ (eq-eqb _ _ (no .no-rest))
-    (none-unless (eqb (h .lift) 0) 3 _ (eq-eqb _ _ (no .no-lift))
-    (none-unless (eqb (h .keep) 0) 4 _ (eq-eqb _ _ (no .no-keep))
-    (none-unless (eqb (h .drop) 0) 5 _ (eq-eqb _ _ (no .no-drop))
-    (none-unless (eqb (h .up) 0) 6 None (eq-eqb _ _ (no .no-up)) refl)))))
+hints-none h zeros =
+    none-unless (eqb (h .main) 0) 1 _ (eq-eqb _ _ (zeros .no-main))
+    (none-unless (eqb (h .rest) 0) 2 _ (eq-eqb _ _ (zeros .no-rest))
+    (none-unless (eqb (h .lift) 0) 3 _ (eq-eqb _ _ (zeros .no-lift))
+    (none-unless (eqb (h .keep) 0) 4 _ (eq-eqb _ _ (zeros .no-keep))
+    (none-unless (eqb (h .drop) 0) 5 _ (eq-eqb _ _ (zeros .no-drop))
+    (none-unless (eqb (h .up) 0) 6 None (eq-eqb _ _ (zeros .no-up)) refl)))))
 
 -- the first equation in its two forms
 pub first-holds : (kind : Kind) (first second shift main rest : ℕ) →

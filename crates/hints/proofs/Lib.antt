@@ -3,3 +3,4 @@ pub mod Lifts
 pub mod Principals
 pub mod Roots
 pub mod Settings
+pub mod Unique
