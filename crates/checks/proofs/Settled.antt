@@ -93,14 +93,10 @@ module _ (σ : Setting) (claimed : Word) (h : Hints) where
       (check-passes up-test flaw.Up _ (eq-eqb _ _ (backs .up-rule))
       (check-passes (eqb (claimed .bits) word) flaw.Word (Ok tt) (eq-eqb _ _ (backs .word-is)) refl)))))
 
-abbrev Settles : Step → Word → Hints → Type 0
-Settles step claimed h =
-    (examinedCase (caseFrom step) claimed h ≡ Ok tt → claimOf claimed h ≡ writtenFor step)
-    × (claimOf claimed h ≡ writtenFor step → examinedCase (caseFrom step) claimed h ≡ Ok tt)
-
-step-settles : (step : Step) → ProperStep step → (claimed : Word) (h : Hints) → Settles step claimed h
-step-settles (Direct word) proper claimed h =
-    (λ ok.
+module _ (word claimed : Word) (h : Hints) where
+  -- a claim that passes has the word of the direct step and no hints
+  direct-passed : examinedDirect word claimed h ≡ Ok tt → claimOf claimed h ≡ writtenFor (Direct word)
+  direct-passed ok =
       let widths = widths-passed (someHint h) _ ok in
       let words = check-passed (eqb (claimed .bits) (word .bits)) flaw.Word (Ok tt) (widths .1) in
       let same = eqb-true _ _ (words .0) in
@@ -108,8 +104,10 @@ step-settles (Direct word) proper claimed h =
       λ i. record {
         word = record { bits = same i };
         hints = record { main = zeros .no-main i; rest = zeros .no-rest i; lift = zeros .no-lift i; keep = zeros .no-keep i; drop = zeros .no-drop i; up = zeros .no-up i };
-      },
-    λ same.
+      }
+
+  direct-passes : claimOf claimed h ≡ writtenFor (Direct word) → examinedDirect word claimed h ≡ Ok tt
+  direct-passes same =
       let zeros : NoHints h = record {
         no-main = ap (λ (w : Written). w .hints .main) same;
         no-rest = ap (λ (w : Written). w .hints .rest) same;
@@ -119,12 +117,16 @@ step-settles (Direct word) proper claimed h =
         no-up = ap (λ (w : Written). w .hints .up) same;
       } in
       widths-pass (someHint h) _ (hints-none h zeros)
-      (check-passes (eqb (claimed .bits) (word .bits)) flaw.Word (Ok tt) (eq-eqb _ _ (ap (λ (w : Written). w .word .bits) same)) refl))
+      (check-passes (eqb (claimed .bits) (word .bits)) flaw.Word (Ok tt) (eq-eqb _ _ (ap (λ (w : Written). w .word .bits) same)) refl)
+
+step-settles : (step : Step) → ProperStep step → (claimed : Word) (h : Hints) →
+    (examinedCase (caseFrom step) claimed h ≡ Ok tt → claimOf claimed h ≡ writtenFor step)
+    × (claimOf claimed h ≡ writtenFor step → examinedCase (caseFrom step) claimed h ≡ Ok tt)
+step-settles (Direct word) proper claimed h = (direct-passed word claimed h, direct-passes word claimed h)
 step-settles (Rounded negative x) proper claimed h =
     let σ = settingOf negative x in
-    let written-backs = rounded-backs σ (setting-fits negative x proper) in
-    (λ ok. backs-unique σ (claimOf claimed h) (roundedWith σ) (passed-backs σ claimed h ok) written-backs,
-    λ same. backs-passes σ claimed h (subst (λ (w : Written). Backs σ w) (sym same) written-backs))
+    let backed = rounded-backs σ (setting-fits negative x proper) in
+    (λ ok. backs-unique σ (claimOf claimed h) (roundedWith σ) (passed-backs σ claimed h ok) backed, λ same. backs-passes σ claimed h (subst (λ (w : Written). Backs σ w) (sym same) backed))
 
 pub examined-sound : (op : Operation) (a b : ℕ) (claimed : Word) (h : Hints) (found : Outcome) →
     found ≡ examined op a b claimed h → Sound found op a b claimed h

@@ -50,6 +50,12 @@ fn refuses<S: System>(system: &S) -> Result<(), Fail> {
 }
 
 #[test]
+fn numbers() -> Result<(), Fail> {
+    check_eq(Flaw::Width(3).number(), 6)?;
+    check_eq(Flaw::Word.number(), 10)
+}
+
+#[test]
 fn sums() -> Result<(), Fail> {
     refuses(&Wrapping)?;
     refuses(&Pair)
