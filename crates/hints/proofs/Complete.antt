@@ -46,9 +46,13 @@ step-unique (Direct d) v w backs-v backs-w =
     λ i. record {
       word = (backs-v .0 ∙ sym (backs-w .0)) i;
       hints = record {
-        main = (h .no-main ∙ sym (g .no-main)) i; rest = (h .no-rest ∙ sym (g .no-rest)) i; lift = (h .no-lift ∙ sym (g .no-lift)) i;
-        keep = (h .no-keep ∙ sym (g .no-keep)) i; drop = (h .no-drop ∙ sym (g .no-drop)) i; up = (h .no-up ∙ sym (g .no-up)) i
-      }
+        main = (h .no-main ∙ sym (g .no-main)) i;
+        rest = (h .no-rest ∙ sym (g .no-rest)) i;
+        lift = (h .no-lift ∙ sym (g .no-lift)) i;
+        keep = (h .no-keep ∙ sym (g .no-keep)) i;
+        drop = (h .no-drop ∙ sym (g .no-drop)) i;
+        up = (h .no-up ∙ sym (g .no-up)) i;
+      };
     }
 step-unique (Rounded negative x) v w backs-v backs-w = backs-unique (settingOf negative x) v w backs-v backs-w
 

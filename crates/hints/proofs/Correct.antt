@@ -46,8 +46,8 @@ many-bits kind.Difference first second shift main rest low high second-high suit
 many-bits kind.Product first second shift main rest low high second-high suits equation width some = absurd (some (omega arith))
 many-bits kind.Quotient first second shift main rest low high second-high suits equation width some =
     elim (cases-lt main (2 ^ 24)) [
-      inl less ↦ absurd (omega (arith, mul-le-mul {n₁ = main + 1} {m₁ = second} {n₂ = 2 ^ 24} {m₂ = 2 ^ 24} (omega arith) (omega arith)))
-    | inr more ↦ more
+      | inl less ↦ absurd (omega (arith, mul-le-mul {n₁ = main + 1} {m₁ = second} {n₂ = 2 ^ 24} {m₂ = 2 ^ 24} (omega arith) (omega arith)))
+      | inr more ↦ more
     ]
 many-bits kind.Root first second shift main rest low high second-high suits equation width some =
     root-low (first * 2 ^ shift) main (omega (arith, radicand-low first second shift low high second-high (suits .0)))
@@ -58,10 +58,10 @@ module _ (σ : Setting) (w : Written) (fit : Fit σ) (backs : Backs σ w) where
   small-lift : (w .hints .rest ≡ 0 → ⊥) → w .hints .lift ≤ 26
   small-lift some =
       let bits = many-bits (σ .kind) (σ .first) (σ .second) (σ .shift) (w .hints .main) (w .hints .rest)
-          (fit .low) (fit .high) (fit .second-high) (fit .suits) (backs .first-equation) (backs .rest-width) some in
+      (fit .low) (fit .high) (fit .second-high) (fit .suits) (backs .first-equation) (backs .rest-width) some in
       elim (cases-lt 26 (w .hints .lift)) [
-        inl more ↦ absurd (omega (arith, backs .lift-high, pow-mono {i = 51 - w .hints .lift} {j = 24} (omega arith)))
-      | inr less ↦ less
+        | inl more ↦ absurd (omega (arith, backs .lift-high, pow-mono {i = 51 - w .hints .lift} {j = 24} (omega arith)))
+        | inr less ↦ less
       ]
 
   backs-cut : Cut (w .hints .main) (w .hints .rest) (σ .scale) (w .hints .lift) (exponentOf (σ .scale) (w .hints .lift))
@@ -165,31 +165,31 @@ scheme-nearest negative (Sum x y) V w proper (s, t, operands, place, is) sound f
     let none = no-rest (w .hints .rest) (backs .rest-width) in
     let ordered = proper .2 .exponents in
     elim (cases-lt (x .exponent) (y .exponent + 27)) [
-      inl near ↦
-        lies-nearest (settingOf negative (Sum x y)) w fit backs V sound
-        (rw (is, none, ← (backs .first-equation)) (sum-lies x y s t (operands .first) (operands .second) (omega arith) ordered))
-    | inr far ↦
-        let off = cut-off x y s t (proper .0) (proper .1) operands far in
-        let main-is : x .significand * 2 ^ 26 + y .significand ≡ w .hints .main = omega (arith, rw off at (backs .first-equation)) in
-        far-nearest (settingOf negative (Sum x y)) w fit backs V (x .significand) s none (proper .0 .low) place
-        (far-size x y s t (proper .0) (proper .1) operands far place) sound
-        (rw is (far-sum x y s t (proper .0) (proper .1) operands far))
-        (standing-close-sum (x .significand) (y .significand) (w .hints .main) (x .exponent + 202) (proper .1 .high) main-is)
+      | inl near ↦
+          lies-nearest (settingOf negative (Sum x y)) w fit backs V sound
+          (rw (is, none, ← (backs .first-equation)) (sum-lies x y s t (operands .first) (operands .second) (omega arith) ordered))
+      | inr far ↦
+          let off = cut-off x y s t (proper .0) (proper .1) operands far in
+          let main-is : x .significand * 2 ^ 26 + y .significand ≡ w .hints .main = omega (arith, rw off at (backs .first-equation)) in
+          far-nearest (settingOf negative (Sum x y)) w fit backs V (x .significand) s none (proper .0 .low) place
+          (far-size x y s t (proper .0) (proper .1) operands far place) sound
+          (rw is (far-sum x y s t (proper .0) (proper .1) operands far))
+          (standing-close-sum (x .significand) (y .significand) (w .hints .main) (x .exponent + 202) (proper .1 .high) main-is)
     ]
 scheme-nearest negative (Difference x y) V w proper (s, t, operands, place, is) sound fit backs =
     let none = no-rest (w .hints .rest) (backs .rest-width) in
     let ordered = proper .2 .exponents in
     elim (cases-lt (x .exponent) (y .exponent + 27)) [
-      inl near ↦
-        lies-nearest (settingOf negative (Difference x y)) w fit backs V sound
-        (rw (is, none) (difference-lies x y s t (operands .first) (operands .second) (w .hints .main) (omega arith) ordered (backs .first-equation)))
-    | inr far ↦
-        let off = cut-off x y s t (proper .0) (proper .1) operands far in
-        let main-is : w .hints .main + y .significand ≡ x .significand * 2 ^ 26 = omega (arith, rw off at (backs .first-equation)) in
-        far-nearest (settingOf negative (Difference x y)) w fit backs V (x .significand) s none (proper .0 .low) place
-        (far-size x y s t (proper .0) (proper .1) operands far place) sound
-        (rw is (far-difference x y s t (proper .0) (proper .1) operands far))
-        (standing-close-difference (x .significand) (y .significand) (w .hints .main) (x .exponent + 202) (proper .1 .high) main-is)
+      | inl near ↦
+          lies-nearest (settingOf negative (Difference x y)) w fit backs V sound
+          (rw (is, none) (difference-lies x y s t (operands .first) (operands .second) (w .hints .main) (omega arith) ordered (backs .first-equation)))
+      | inr far ↦
+          let off = cut-off x y s t (proper .0) (proper .1) operands far in
+          let main-is : w .hints .main + y .significand ≡ x .significand * 2 ^ 26 = omega (arith, rw off at (backs .first-equation)) in
+          far-nearest (settingOf negative (Difference x y)) w fit backs V (x .significand) s none (proper .0 .low) place
+          (far-size x y s t (proper .0) (proper .1) operands far place) sound
+          (rw is (far-difference x y s t (proper .0) (proper .1) operands far))
+          (standing-close-difference (x .significand) (y .significand) (w .hints .main) (x .exponent + 202) (proper .1 .high) main-is)
     ]
 scheme-nearest negative (Product x y) V w proper (s, t, operands, is) sound fit backs =
     let none = no-rest (w .hints .rest) (backs .rest-width) in

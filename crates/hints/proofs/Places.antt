@@ -30,9 +30,9 @@ module _ (x y : NormalForm) (s t : ℕ) (stands-x : Stands x s) (stands-y : Stan
       let p = 2 ^ x .exponent in
       let q = 2 ^ y .exponent in
       let powers : 2 ^ (x .exponent + y .exponent + 56) ≡ p * q * 2 ^ 56 =
-          pow-add 2 (x .exponent + y .exponent) 56 ∙ ap (λ n. n * 2 ^ 56) (pow-add 2 (x .exponent) (y .exponent)) in
+      pow-add 2 (x .exponent + y .exponent) 56 ∙ ap (λ n. n * 2 ^ 56) (pow-add 2 (x .exponent) (y .exponent)) in
       let both : s * t * 2 ^ 46 ≡ x .significand * p * (y .significand * q) =
-          omega (arith, ap (λ n. n * (t * 2 ^ 23)) stands-x, ap (λ n. x .significand * p * n) stands-y) in
+      omega (arith, ap (λ n. n * (t * 2 ^ 23)) stands-x, ap (λ n. x .significand * p * n) stands-y) in
       lies-exactly (s * t) (2 ^ 149) (x .significand * y .significand) (x .exponent + y .exponent + 56) (omega arith)
       (rw powers (omega arith))
 
@@ -46,16 +46,16 @@ module _ (x y : NormalForm) (s t : ℕ) (stands-x : Stands x s) (stands-y : Stan
       Lies (ratio (s + t) 1) (x .significand * 2 ^ 26 + y .significand * 2 ^ alignmentOf x y) 0 (x .exponent + 202)
   sum-lies near ordered =
       let moved : y .significand * 2 ^ alignmentOf x y * 2 ^ x .exponent ≡ y .significand * (2 ^ 26 * 2 ^ y .exponent) =
-          omega (arith, ap (λ n. y .significand * n) (aligned near ordered)) in
+      omega (arith, ap (λ n. y .significand * n) (aligned near ordered)) in
       lies-exactly (s + t) 1 _ (x .exponent + 202) (omega arith) (rw (pow-add 2 (x .exponent) 202) (omega arith))
 
   pub difference-lies : (main : ℕ) → x .exponent - y .exponent ≤ 26 → y .exponent ≤ x .exponent →
       main + y .significand * 2 ^ alignmentOf x y ≡ x .significand * 2 ^ 26 → Lies (ratio (s - t) 1) main 0 (x .exponent + 202)
   difference-lies main near ordered equation =
       let moved : y .significand * 2 ^ alignmentOf x y * 2 ^ x .exponent ≡ y .significand * (2 ^ 26 * 2 ^ y .exponent) =
-          omega (arith, ap (λ n. y .significand * n) (aligned near ordered)) in
+      omega (arith, ap (λ n. y .significand * n) (aligned near ordered)) in
       let scaled : main * 2 ^ x .exponent + y .significand * 2 ^ alignmentOf x y * 2 ^ x .exponent ≡ x .significand * 2 ^ 26 * 2 ^ x .exponent =
-          omega (arith, ap (λ n. n * 2 ^ x .exponent) equation) in
+      omega (arith, ap (λ n. n * 2 ^ x .exponent) equation) in
       lies-exactly (s - t) 1 main (x .exponent + 202) (omega arith) (rw (pow-add 2 (x .exponent) 202) (omega arith))
 
   pub quotient-lies : (main rest : ℕ) → y .exponent ≤ 276 → 0 < t → rest < y .significand →
@@ -69,10 +69,10 @@ module _ (x y : NormalForm) (s t : ℕ) (stands-x : Stands x s) (stands-y : Stan
       let level : S + y .exponent ≡ x .exponent + 374 = omega arith in
       let powers : 2 ^ S * q ≡ p * 2 ^ 374 = sym (pow-add 2 S (y .exponent)) ∙ ap (λ n. 2 ^ n) level ∙ pow-add 2 (x .exponent) 374 in
       let one : 2 ^ S * t * 2 ^ 23 ≡ d * (p * 2 ^ 374) =
-          omega (arith, ap (λ n. 2 ^ S * n) stands-y, ap (λ n. d * n) powers) in
+      omega (arith, ap (λ n. 2 ^ S * n) stands-y, ap (λ n. d * n) powers) in
       let low : main * 2 ^ S * t * 2 ^ 23 ≡ main * d * p * 2 ^ 374 = omega (arith, ap (λ n. main * n) one) in
       let value : s * 2 ^ 400 * 2 ^ 23 ≡ (main * d + rest) * p * 2 ^ 374 =
-          omega (arith, ap (λ n. n * p) equation) in
+      omega (arith, ap (λ n. n * p) equation) in
       let short : rest * p < d * p = mul-lt-mul-of-pos-right width (pow-pos (x .exponent)) in
       lies-ratio (s * 2 ^ 149) t main rest S divides (omega arith) (omega arith)
       (λ none. omega (arith, ap (λ n. n * p) none))
@@ -114,7 +114,7 @@ module _ (x : NormalForm) (s : ℕ) (stands : Stands x s) where
       let p = 2 ^ x .exponent in
       let level : S + S + radicandShift x ≡ x .exponent + 628 = omega arith in
       let powers : 2 ^ S * 2 ^ S * f ≡ p * 2 ^ 628 =
-          ap (λ n. n * f) (sym (pow-add 2 S S)) ∙ sym (pow-add 2 (S + S) (radicandShift x)) ∙ ap (λ n. 2 ^ n) level ∙ pow-add 2 (x .exponent) 628 in
+      ap (λ n. n * f) (sym (pow-add 2 S S)) ∙ sym (pow-add 2 (S + S) (radicandShift x)) ∙ ap (λ n. 2 ^ n) level ∙ pow-add 2 (x .exponent) 628 in
       let some-f : 0 < f * 2 ^ 23 = omega (arith, pow-pos (radicandShift x)) in
       let some-p : 0 < p * (2 ^ 149 * 2 ^ 502) = product-some p (2 ^ 149 * 2 ^ 502) (pow-pos (x .exponent)) (pow-pos 651) in
       lies-root (s * 2 ^ 149) main rest S

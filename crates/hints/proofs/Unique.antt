@@ -34,7 +34,7 @@ principal-unique Quotient first second shift main rest main' rest' equation widt
 principal-unique Root first second shift main rest main' rest' equation width equation' width' =
     let n = first * 2 ^ shift in
     let same : main ≡ main' =
-        root-unique n main main' (solution-is-root n main rest equation width) (solution-is-root n main' rest' equation' width') in
+    root-unique n main main' (solution-is-root n main rest equation width) (solution-is-root n main' rest' equation' width') in
     let squares : main * main ≡ main' * main' = ap (λ m. m * m) same in
     (same, omega arith)
 
@@ -42,9 +42,9 @@ principal-unique Root first second shift main rest main' rest' equation width eq
 lift-unique : (main l m : ℕ) → l ≤ 50 → m ≤ 50 → 2 ^ (50 - l) ≤ main → main < 2 ^ (51 - l) → 2 ^ (50 - m) ≤ main → main < 2 ^ (51 - m) → l ≡ m
 lift-unique main l m l-fits m-fits l-low l-high m-low m-high =
     elim (cases-order l m) [
-      inl same ↦ same
-    | inr (inl less) ↦ absurd (omega (arith, pow-mono {i = 51 - m} {j = 50 - l} (omega arith)))
-    | inr (inr more) ↦ absurd (omega (arith, pow-mono {i = 51 - l} {j = 50 - m} (omega arith)))
+      | inl same ↦ same
+      | inr (inl less) ↦ absurd (omega (arith, pow-mono {i = 51 - m} {j = 50 - l} (omega arith)))
+      | inr (inr more) ↦ absurd (omega (arith, pow-mono {i = 51 - l} {j = 50 - m} (omega arith)))
     ]
 
 pub backs-unique : (σ : Setting) (v w : Written) → Backs σ v → Backs σ w → v ≡ w
@@ -53,26 +53,26 @@ backs-unique σ v w backs-v backs-w =
     let h = v .hints in
     let g = w .hints in
     let principal = principal-unique (σ .kind) (σ .first) (σ .second) (σ .shift) (h .main) (h .rest) (g .main) (g .rest)
-        (backs-v .first-equation) (backs-v .rest-width) (backs-w .first-equation) (backs-w .rest-width) in
+    (backs-v .first-equation) (backs-v .rest-width) (backs-w .first-equation) (backs-w .rest-width) in
     let main-same = principal .0 in
     let rest-same = principal .1 in
     let low : 2 ^ (50 - g .lift) ≤ h .main = rw main-same (backs-w .lift-low) in
     let high : h .main < 2 ^ (51 - g .lift) = rw main-same (backs-w .lift-high) in
     let lift-same : h .lift ≡ g .lift =
-        lift-unique (h .main) (h .lift) (g .lift) (backs-v .lift-width) (backs-w .lift-width) (backs-v .lift-low) (backs-v .lift-high) low high in
+    lift-unique (h .main) (h .lift) (g .lift) (backs-v .lift-width) (backs-w .lift-width) (backs-v .lift-low) (backs-v .lift-high) low high in
     let k-same : cutOf S (h .lift) ≡ cutOf S (g .lift) = ap (cutOf S) lift-same in
     let product-same : h .main * 2 ^ h .lift ≡ g .main * 2 ^ g .lift = rw (main-same, lift-same) in
     let drop-small : h .drop < 2 ^ cutOf S (g .lift) = rw (← lift-same) (backs-v .drop-width) in
     let equal : h .keep * 2 ^ cutOf S (g .lift) + h .drop ≡ g .keep * 2 ^ cutOf S (g .lift) + g .drop =
-        ap (λ k. h .keep * 2 ^ k + h .drop) (sym k-same) ∙ sym (backs-v .second-equation) ∙ product-same ∙ backs-w .second-equation in
+    ap (λ k. h .keep * 2 ^ k + h .drop) (sym k-same) ∙ sym (backs-v .second-equation) ∙ product-same ∙ backs-w .second-equation in
     let parts = euclid-unique (2 ^ cutOf S (g .lift)) (h .keep) (h .drop) (g .keep) (g .drop) drop-small (backs-w .drop-width) equal in
     let keep-same = parts .0 in
     let drop-same = parts .1 in
     let up-same : h .up ≡ g .up =
-        backs-v .up-rule ∙ rw (lift-same, rest-same, keep-same, drop-same) (sym (backs-w .up-rule)) in
+    backs-v .up-rule ∙ rw (lift-same, rest-same, keep-same, drop-same) (sym (backs-w .up-rule)) in
     let word-same : v .word .bits ≡ w .word .bits =
-        backs-v .word-is ∙ rw (lift-same, keep-same, up-same) (sym (backs-w .word-is)) in
+    backs-v .word-is ∙ rw (lift-same, keep-same, up-same) (sym (backs-w .word-is)) in
     λ i. record {
       word = record { bits = word-same i };
-      hints = record { main = main-same i; rest = rest-same i; lift = lift-same i; keep = keep-same i; drop = drop-same i; up = up-same i }
+      hints = record { main = main-same i; rest = rest-same i; lift = lift-same i; keep = keep-same i; drop = drop-same i; up = up-same i };
     }

@@ -1,4 +1,5 @@
 pub mod Backs
+pub mod Cases
 pub mod Refusals
 pub mod Scheme
 pub mod Settings

@@ -10,7 +10,7 @@ abbrev pub Row : Operation → ℕ → ℕ → ℕ → ℕ → ℕ → ℕ → �
 Row op a b word main rest lift keep drop up =
     writtenStep op a b ≡ record {
       word = record { bits = word };
-      hints = record { main = main; rest = rest; lift = lift; keep = keep; drop = drop; up = up }
+      hints = record { main = main; rest = rest; lift = lift; keep = keep; drop = drop; up = up };
     }
 
 pub record Worked : Type 0 where

@@ -6,6 +6,7 @@ mod writer;
 
 pub use refusal::Layer;
 pub use refusal::Refusal;
+pub use setting::Case;
 pub use setting::Kind;
 pub use setting::Setting;
 pub use writer::Hints;

@@ -2,9 +2,13 @@
 ghost use mathlib.Core.Path.{_≡_};
 ghost use Rattle.binary32.specs.Normal.{Proper};
 ghost use Prim.Native.Nat.{_≤_};
+ghost use Rattle.hints.specs.Cases.{caseOf, FitCase};
 ghost use Rattle.hints.specs.Settings.{settingOf, alignmentOf, radicandShift};
 use binary32::Exact;
 use binary32::NormalForm;
+use binary32::Operation;
+use binary32::Step;
+use binary32::Word;
 
 #[derive(Clone, Copy)]
 pub enum Kind {
@@ -98,6 +102,26 @@ impl Setting {
                     scale: (x.exponent + 628 - shift) / 2,
                 }
             }
+        }
+    }
+}
+
+// What the hints of a step are held against: of a direct step its word alone, of a rounded one its setting.
+#[derive(Clone, Copy)]
+pub enum Case {
+    Direct(Word),
+    Rounded(Setting),
+}
+
+impl Case {
+    // The case of an operation on two words.
+    pub fn of(operation: Operation, a: Word, b: Word) -> Case
+        ensures value { λ r. ⌜ r ≡ caseOf operation (a .bits) (b .bits) ⌝ }
+        ensures fits { λ r. ⌜ FitCase r ⌝ }
+    {
+        match operation.apply(a, b) {
+            Step::Direct(word) => Case::Direct(word),
+            Step::Rounded { negative, exact } => Case::Rounded(Setting::of(negative, exact)),
         }
     }
 }

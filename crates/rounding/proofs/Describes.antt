@@ -55,8 +55,8 @@ describes-line false w others V described = described
 opposite-comm : (a b : ℕ) → opposite b a ≡ opposite a b
 opposite-comm a b =
     elim (cases-bool (signBit a)) [
-      inl p ↦ elim (cases-bool (signBit b)) [ inl q ↦ rw (p, q) refl | inr q ↦ rw (p, q) refl ]
-    | inr p ↦ elim (cases-bool (signBit b)) [ inl q ↦ rw (p, q) refl | inr q ↦ rw (p, q) refl ]
+      | inl p ↦ elim (cases-bool (signBit b)) [ inl q ↦ rw (p, q) refl | inr q ↦ rw (p, q) refl ]
+      | inr p ↦ elim (cases-bool (signBit b)) [ inl q ↦ rw (p, q) refl | inr q ↦ rw (p, q) refl ]
     ]
 
 exact-comm : (a b : ℕ) → sumOf b a ≡ sumOf a b
@@ -78,21 +78,21 @@ describes-rounded a b x y stands-x stands-y larger candidate =
     let ordered : t ≤ s = size-keeps (magnitudeOf b) (magnitudeOf a) larger in
     let apart : max s t - min s t ≡ s - t = omega arith in
     elim (cases-bool (opposite a b)) [
-      inl differ ↦ rw differ (s, t, operands, place, ap (λ n. ratio n 1) apart)
-    | inr alike ↦ rw alike (s, t, operands, place, refl)
+      | inl differ ↦ rw differ (s, t, operands, place, ap (λ n. ratio n 1) apart)
+      | inr alike ↦ rw alike (s, t, operands, place, refl)
     ]
 
 describes-finite : (a b : ℕ) (x y : NormalForm) → Stands x (size (magnitudeOf a)) → Stands y (size (magnitudeOf b)) →
     magnitudeOf a ≤ top → magnitudeOf b ≤ top → DescribesStep (sumStepOf a b (Finite x) (Finite y)) (sumOf a b)
 describes-finite a b x y stands-x stands-y candidate-a candidate-b =
     elim (cases-bool (eqb (magnitudeOf a) (magnitudeOf b) && opposite a b)) [
-      inl cancels ↦ rw cancels tt
-    | inr kept ↦
-        elim (cases-lt (magnitudeOf a) (magnitudeOf b)) [
-          inl less ↦
-            rw (kept, lt-ltb _ _ less, ← exact-comm a b) (describes-rounded b a y x stands-y stands-x (omega arith) candidate-b)
-        | inr more ↦ rw (kept, le-ltb _ _ more) (describes-rounded a b x y stands-x stands-y more candidate-a)
-        ]
+      | inl cancels ↦ rw cancels tt
+      | inr kept ↦
+          elim (cases-lt (magnitudeOf a) (magnitudeOf b)) [
+            | inl less ↦
+                rw (kept, lt-ltb _ _ less, ← exact-comm a b) (describes-rounded b a y x stands-y stands-x (omega arith) candidate-b)
+            | inr more ↦ rw (kept, le-ltb _ _ more) (describes-rounded a b x y stands-x stands-y more candidate-a)
+          ]
     ]
 
 -- a finite nonzero word is no NaN

@@ -1,0 +1,4 @@
+pub mod Equations
+pub mod Examined
+pub mod Flaws
+pub mod Widths
