@@ -1,6 +1,6 @@
 // The two equations of a rounded step.
 ghost use mathlib.Core.Path.{_≡_};
-ghost use Prim.Native.Nat.{_^_, _<_, _≤_};
+ghost use Prim.Native.Nat.{_≤_};
 ghost use Rattle.hints.specs.Settings.{Fit};
 ghost use Rattle.checks.specs.Equations.{firstEquation, secondEquation, balanced, Narrow};
 use crate::width::power;
