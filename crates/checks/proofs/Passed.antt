@@ -1,19 +1,19 @@
 -- What a check that passed tells, and when one passes.
-use mathlib.Core.Path.{_≡_, refl, sym, _∙_}
-use mathlib.Core.Bool.{Bool, true, false, cond, _&&_}
-use Prim.Native.Nat.{ℕ, _+_, _-_, _*_, _^_, _≤_, _<_}
+use mathlib.Core.Path.{_≡_, refl, sym}
+use mathlib.Core.Bool.{Bool, true, false}
+use Prim.Native.Nat.{ℕ, _-_, _^_, _≤_, _<_}
 use native.Mathlib.Omega.{arith}
 use lib.Dec.{eqb, ltb, leb}
 use Rattle.std.specs.declared.option.Option.{Option}
 use Rattle.std.specs.declared.option.Option.the-variants.{Some, None}
-use Rattle.std.specs.declared.result.Result.the-variants.{Ok, Err}
+use Rattle.std.specs.declared.result.Result.the-variants.{Ok}
 use Rattle.std.proofs.shelf.Tests.{ltb-true, leb-true, lt-ltb, le-leb, eqb-true, eq-eqb, and-parts, and-from}
 use Rattle.hints.specs.Backs.{restLimit, FirstEquation, NoHints}
 use Rattle.hints.specs.Scheme.{mainWidth}
 use Rattle.hints.specs.declared.setting.Kind.{Kind}
 use Rattle.hints.specs.declared.setting.Kind.the-variants.{Sum, Difference, Product, Quotient, Root}
 use Rattle.hints.specs.declared.writer.Hints.{Hints}
-use Rattle.checks.specs.Equations.{balanced, firstEquation, secondEquation}
+use Rattle.checks.specs.Equations.{balanced, firstEquation}
 use Rattle.checks.specs.Examined.{Outcome, check, checkWidths}
 use Rattle.checks.specs.Widths.{unless, liftFits, frontOutside, backOutside, someHint}
 use Rattle.checks.specs.declared.flaw.Flaw.{Flaw}

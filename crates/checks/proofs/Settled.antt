@@ -1,11 +1,11 @@
 -- A claim passes all checks just where it is what the writer gives: passing them is to back the step, the
 -- writer's answer backs it, and no other does.
-use mathlib.Core.Path.{_≡_, refl, sym, ap, subst, _∙_}
-use mathlib.Core.Bool.{Bool, true, false}
-use Prim.Native.Nat.{ℕ, _+_, _-_, _*_, _^_, _≤_, _<_}
+use mathlib.Core.Path.{_≡_, refl, sym, ap, subst}
+use mathlib.Core.Bool.{Bool}
+use Prim.Native.Nat.{ℕ}
 use native.Mathlib.Omega.{arith}
 use lib.Dec.{eqb}
-use Rattle.std.specs.declared.result.Result.the-variants.{Ok, Err}
+use Rattle.std.specs.declared.result.Result.the-variants.{Ok}
 use Rattle.std.proofs.shelf.Tests.{eqb-true, eq-eqb}
 use Rattle.binary32.specs.Normal.{ProperStep}
 use Rattle.binary32.specs.Steps.{stepOf}
@@ -18,8 +18,8 @@ use Rattle.binary32.proofs.Steps.{step-proper}
 use Rattle.hints.specs.Backs.{Backs, NoHints}
 use Rattle.hints.specs.Cases.{caseFrom}
 use Rattle.hints.specs.Scheme.{exponentOf, cutOf, magnitudeFrom}
-use Rattle.hints.specs.Settings.{settingOf, Fit}
-use Rattle.hints.specs.Writer.{roundedWith, writtenFor, writtenStep}
+use Rattle.hints.specs.Settings.{settingOf}
+use Rattle.hints.specs.Writer.{roundedWith, writtenFor}
 use Rattle.hints.specs.declared.setting.Setting.{Setting}
 use Rattle.hints.specs.declared.writer.Hints.{Hints}
 use Rattle.hints.specs.declared.writer.Written.{Written}
@@ -28,7 +28,7 @@ use Rattle.hints.proofs.Complete.{scheme-is-written}
 use Rattle.hints.proofs.Settings.{setting-fits}
 use Rattle.hints.proofs.Unique.{backs-unique}
 use Rattle.checks.specs.Equations.{balanced, firstEquation, secondEquation}
-use Rattle.checks.specs.Examined.{Outcome, check, checkWidths, wordChecked, upOf, examinedDirect, examinedRounded, examinedCase, examined, claimOf, Sound}
+use Rattle.checks.specs.Examined.{Outcome, upOf, examinedDirect, examinedRounded, examinedCase, examined, claimOf, Sound}
 use Rattle.checks.specs.Widths.{frontOutside, backOutside, someHint}
 use Rattle.checks.specs.declared.flaw.Flaw.the-variants as flaw
 use Rattle.checks.proofs.Passed.{check-passed, check-passes, widths-passed, widths-pass, front-within, within-front, back-within, within-back, no-hints, hints-none, first-holds, holds-first}

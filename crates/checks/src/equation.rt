@@ -1,8 +1,8 @@
 // The two equations of a rounded step.
 ghost use mathlib.Core.Path.{_≡_};
-ghost use Prim.Native.Nat.{_^_, _<_, _≤_};
+ghost use Prim.Native.Nat.{_≤_};
 ghost use Rattle.hints.specs.Settings.{Fit};
-ghost use Rattle.checks.specs.Equations.{firstEquation, secondEquation, balanced, Narrow};
+ghost use Rattle.checks.specs.Equations.{terms, firstEquation, secondEquation, balanced, Narrow};
 use crate::width::power;
 use hints::Hints;
 use hints::Kind;
@@ -22,7 +22,32 @@ pub(crate) struct Equation {
     seventh: u64,
 }
 
-// A sum keeps 26 bits below the larger operand, and a quotient is taken of so many.
+impl Equation {
+    // The equation with these terms, in their order.
+    fn of(
+        first: u64,
+        second: u64,
+        third: u64,
+        fourth: u64,
+        fifth: u64,
+        sixth: u64,
+        seventh: u64,
+    ) -> Equation
+        ensures { λ r. ⌜ r ≡ terms first second third fourth fifth sixth seventh ⌝ }
+    {
+        Equation {
+            first,
+            second,
+            third,
+            fourth,
+            fifth,
+            sixth,
+            seventh,
+        }
+    }
+}
+
+// 2^26: a sum keeps 26 bits below the larger operand, and a dividend is moved up by as many.
 const GUARD: u64 = 0x400_0000;
 
 // The first equation ties main and rest to the significands of the operands.
@@ -30,52 +55,20 @@ pub(crate) fn first_equation(setting: Setting, hints: Hints) -> Equation
     requires { ⌜ Fit setting ⌝ }
     ensures { λ r. ⌜ r ≡ firstEquation (setting .kind) (setting .first) (setting .second) (setting .shift) (hints .main) (hints .rest) ⌝ }
 {
-    match setting.kind {
-        Kind::Sum => Equation {
-            first: setting.first,
-            second: GUARD,
-            third: setting.second,
-            fourth: power(setting.shift),
-            fifth: hints.main,
-            sixth: 1,
-            seventh: 0,
-        },
-        Kind::Difference => Equation {
-            first: hints.main,
-            second: 1,
-            third: setting.second,
-            fourth: power(setting.shift),
-            fifth: setting.first,
-            sixth: GUARD,
-            seventh: 0,
-        },
-        Kind::Product => Equation {
-            first: setting.first,
-            second: setting.second,
-            third: 0,
-            fourth: 0,
-            fifth: hints.main,
-            sixth: 1,
-            seventh: 0,
-        },
-        Kind::Quotient => Equation {
-            first: setting.first,
-            second: GUARD,
-            third: 0,
-            fourth: 0,
-            fifth: hints.main,
-            sixth: setting.second,
-            seventh: hints.rest,
-        },
-        Kind::Root => Equation {
-            first: setting.first,
-            second: power(setting.shift),
-            third: 0,
-            fourth: 0,
-            fifth: hints.main,
-            sixth: hints.main,
-            seventh: hints.rest,
-        },
+    let Setting {
+        kind,
+        first,
+        second,
+        shift,
+        ..
+    } = setting;
+    let Hints { main, rest, .. } = hints;
+    match kind {
+        Kind::Sum => Equation::of(first, GUARD, second, power(shift), main, 1, 0),
+        Kind::Difference => Equation::of(main, 1, second, power(shift), first, GUARD, 0),
+        Kind::Product => Equation::of(first, second, 0, 0, main, 1, 0),
+        Kind::Quotient => Equation::of(first, GUARD, 0, 0, main, second, rest),
+        Kind::Root => Equation::of(first, power(shift), 0, 0, main, main, rest),
     }
 }
 
@@ -84,15 +77,8 @@ pub(crate) fn second_equation(k: u32, hints: Hints) -> Equation
     requires { ⌜ k ≤ 52 ⌝ ∗ ⌜ hints .lift ≤ 50 ⌝ }
     ensures { λ r. ⌜ r ≡ secondEquation k hints ⌝ }
 {
-    Equation {
-        first: hints.main,
-        second: power(hints.lift as u32),
-        third: 0,
-        fourth: 0,
-        fifth: hints.keep,
-        sixth: power(k),
-        seventh: hints.drop,
-    }
+    let lifted = power(hints.lift as u32);
+    Equation::of(hints.main, lifted, 0, 0, hints.keep, power(k), hints.drop)
 }
 
 // Whether an equation holds, as the system reckons it. Its sides are small enough for every system.

@@ -1,6 +1,6 @@
 // The widths of the hints.
 ghost use mathlib.Core.Path.{_≡_};
-ghost use Prim.Native.Nat.{_+_, _-_, _*_, _^_, _<_, _≤_};
+ghost use Prim.Native.Nat.{_^_, _<_, _≤_};
 ghost use Rattle.hints.specs.Backs.{restLimit};
 ghost use Rattle.hints.specs.Scheme.{mainWidth};
 ghost use Rattle.checks.specs.Widths.{liftFits, frontOutside, backOutside, someHint};

@@ -1,4 +1,4 @@
-use mathlib.Core.Path.{_≡_, ap, _∙_}
+use mathlib.Core.Path.{ap, _∙_}
 use Rattle.binary32.proofs.Steps.{step-proper}
 use Rattle.hints.specs.Cases.{caseFrom}
 use Rattle.hints.specs.declared.setting.Case.the-variants.{Rounded}
