@@ -11,16 +11,13 @@ use lib.Pow.{pow-pos, pow-add}
 use Rattle.std.proofs.shelf.Tests.{eq-eqb, ne-eqb, cases-eq}
 use Rattle.binary32.specs.Words.{fieldOf, fractionOf, magnitudeOf, normalOf, classOf, classWith}
 use Rattle.binary32.specs.Sizes.{size}
+pub use Rattle.binary32.specs.Normal.{Stands, Sized}
 use Rattle.binary32.specs.Normal.{Normalized, ProperClass}
 use Rattle.binary32.specs.declared.word.NormalForm.{NormalForm}
 use Rattle.binary32.specs.declared.word.Class.{Class}
 use Rattle.binary32.specs.declared.word.Class.the-variants.{Nan, Infinity, Zero, Finite}
 use Rattle.binary32.proofs.Sizes.{size-small, size-large}
 use Rattle.binary32.proofs.Zeros.{lifted-below, lifted-top}
-
--- a normal form stands for a size of s units
-abbrev pub Stands : NormalForm → ℕ → Type 0
-Stands n s = s * 2 ^ 23 ≡ n .significand * 2 ^ n .exponent
 
 -- a subnormal's fraction moved up, the exponent lowered alike
 subnormal : ℕ → NormalForm
@@ -62,13 +59,7 @@ module _ (E F : ℕ) (some : 0 < E) (low : E < 255) (fits : F < 2 ^ 23) where
       let whole : 2 ^ (E - 1) * 2 ^ 23 ≡ 2 ^ (E + 22) = sym (pow-add 2 (E - 1) 23) ∙ ap (λ n. 2 ^ n) (omega arith) in
       mul-assoc (2 ^ 23 + F) (2 ^ (E - 1)) (2 ^ 23) ∙ ap (λ n. (2 ^ 23 + F) * n) whole
 
--- what a class says of a magnitude with the field E and the fraction F: its size, where it is finite and nonzero
-abbrev pub Sized : Class → ℕ → Type 0
-Sized Nan s = Unit {0}
-Sized Infinity s = Unit {0}
-Sized Zero s = Unit {0}
-Sized (Finite n) s = Normalized n × Stands n s
-
+-- what a class says of a magnitude with the field E and the fraction F
 class-sized : (E F m : ℕ) → E < 256 → F < 2 ^ 23 → m / 2 ^ 23 ≡ E → m % 2 ^ 23 ≡ F → Sized (classWith E F) (size m)
 unfolding subnormal usual
 class-sized E F m narrow fits field fraction =
@@ -85,7 +76,7 @@ class-sized E F m narrow fits field fraction =
             | inl low ↦
                 let zero = eq-eqb E 0 low in
                 elim (cases-eq F 0) [
-                  | inl none ↦ let e = eq-eqb F 0 none in rw (part, zero, e) tt
+                  | inl none ↦ let e = eq-eqb F 0 none in rw (part, zero, e) (size-small m (field ∙ low) ∙ fraction ∙ none)
                   | inr some ↦
                       let e = ne-eqb F 0 some in
                       let positive : 0 < F = omega arith in

@@ -15,6 +15,17 @@ pub record Normalized (n : NormalForm) : Type 0 where
   pub high : n .significand < 2 ^ 24
   pub bounded : n .exponent ≤ 276
 
+-- A normal form stands for a size of s units of 2^(−149): m · 2^e is that many units.
+abbrev pub Stands : NormalForm → ℕ → Type 0
+Stands n s = s * 2 ^ 23 ≡ n .significand * 2 ^ n .exponent
+
+-- what the class of a word says of its size: a finite nonzero word has the normal form that stands for it
+abbrev pub Sized : Class → ℕ → Type 0
+Sized Nan s = Unit {0}
+Sized Infinity s = Unit {0}
+Sized Zero s = s ≡ 0
+Sized (Finite n) s = Normalized n × Stands n s
+
 -- the first stands for no smaller value than the second
 pub record Ordered (x y : NormalForm) : Type 0 where
   pub exponents : y .exponent ≤ x .exponent

@@ -1,7 +1,9 @@
 // A word of 32 bits: its fields, its class with the normal form, and its making from sign and magnitude.
 ghost use mathlib.Core.Path.{_≡_};
 ghost use Prim.Native.Nat.{_+_, _-_, _*_, _/_, _%_, _^_, _<_, _≤_};
-ghost use Rattle.binary32.specs.Words.{signBit, fieldOf, fractionOf, magnitudeOf, classOf, composed, turnedOf, normalOf};
+ghost use Rattle.binary32.specs.Words.{signBit, fieldOf, fractionOf, magnitudeOf, classOf, classWith, composed, turnedOf, normalOf};
+ghost use Rattle.binary32.specs.Normal.{Sized};
+ghost use Rattle.binary32.specs.Sizes.{size};
 
 // The 32 bits of a binary32 datum. Every pattern is one.
 #[derive(Clone, Copy, PartialEq, Eq, Debug)]
@@ -46,6 +48,31 @@ fn normalized(fraction: u32) -> NormalForm
     }
 }
 
+// The class of a word with this exponent field and this fraction.
+fn class_of(field: u32, fraction: u32) -> Class
+    requires { ⌜ field < 256 ⌝ ∗ ⌜ fraction < 2 ^ 23 ⌝ }
+    ensures { λ r. ⌜ r ≡ classWith field fraction ⌝ }
+{
+    if field == 255 {
+        return if fraction == 0 {
+            Class::Infinity
+        } else {
+            Class::Nan
+        };
+    }
+    if field > 0 {
+        return Class::Finite(NormalForm {
+            significand: 0x80_0000 + fraction,
+            exponent: field + 22,
+        });
+    }
+    if fraction == 0 {
+        Class::Zero
+    } else {
+        Class::Finite(normalized(fraction))
+    }
+}
+
 impl Word {
     // The word that every NaN result is.
     pub const NAN: Word = Word { bits: 0x7fc0_0000 };
@@ -86,29 +113,12 @@ impl Word {
         part(self.bits, 0, 31)
     }
 
+    // What the word stands for. The normal form of a finite nonzero word has its size.
     pub fn class(self) -> Class
-        ensures { λ r. ⌜ r ≡ classOf (self .bits) ⌝ }
+        ensures value { λ r. ⌜ r ≡ classOf (self .bits) ⌝ }
+        ensures sized { λ r. ⌜ Sized r (size (magnitudeOf (self .bits))) ⌝ }
     {
-        let field = self.exponent_field();
-        let fraction = self.fraction();
-        if field == 255 {
-            return if fraction == 0 {
-                Class::Infinity
-            } else {
-                Class::Nan
-            };
-        }
-        if field > 0 {
-            return Class::Finite(NormalForm {
-                significand: 0x80_0000 + fraction,
-                exponent: field + 22,
-            });
-        }
-        if fraction == 0 {
-            Class::Zero
-        } else {
-            Class::Finite(normalized(fraction))
-        }
+        class_of(self.exponent_field(), self.fraction())
     }
 
     // The word with this sign and the low 31 bits of `magnitude`.
