@@ -1,6 +1,6 @@
 -- A claim passes all checks just where it is what the writer gives: passing them is to back the step, the
 -- writer's answer backs it, and no other does.
-use mathlib.Core.Path.{_≡_, refl, sym, ap, subst}
+use mathlib.Core.Path.{_≡_, refl, sym, ap, subst, _∙_}
 use mathlib.Core.Bool.{Bool}
 use Prim.Native.Nat.{ℕ}
 use native.Mathlib.Omega.{arith}

@@ -1,6 +1,7 @@
 // The setting of a rounded step: what its hints are reckoned from.
 ghost use mathlib.Core.Path.{_≡_};
 ghost use Rattle.binary32.specs.Normal.{Proper};
+ghost use Rattle.binary32.specs.Steps.{stepOf};
 ghost use Prim.Native.Nat.{_≤_};
 ghost use Rattle.hints.specs.Cases.{caseOf, FitCase};
 ghost use Rattle.hints.specs.Settings.{settingOf, alignmentOf, radicandShift};
@@ -113,15 +114,24 @@ pub enum Case {
     Rounded(Setting),
 }
 
+// The case of a step that is known.
+fn case_from(operation: Operation, a: Word, b: Word, step: Step) -> Case
+    requires { ⌜ stepOf operation (a .bits) (b .bits) ≡ step ⌝ }
+    ensures value { λ r. ⌜ r ≡ caseOf operation (a .bits) (b .bits) ⌝ }
+    ensures fits { λ r. ⌜ FitCase r ⌝ }
+{
+    match step {
+        Step::Direct(word) => Case::Direct(word),
+        Step::Rounded { negative, exact } => Case::Rounded(Setting::of(negative, exact)),
+    }
+}
+
 impl Case {
     // The case of an operation on two words.
     pub fn of(operation: Operation, a: Word, b: Word) -> Case
         ensures value { λ r. ⌜ r ≡ caseOf operation (a .bits) (b .bits) ⌝ }
         ensures fits { λ r. ⌜ FitCase r ⌝ }
     {
-        match operation.apply(a, b) {
-            Step::Direct(word) => Case::Direct(word),
-            Step::Rounded { negative, exact } => Case::Rounded(Setting::of(negative, exact)),
-        }
+        case_from(operation, a, b, operation.apply(a, b))
     }
 }
