@@ -1,3 +1,4 @@
+pub mod Direct
 pub mod Levels
 pub mod Normal
 pub mod Sizes

@@ -12,7 +12,7 @@ use Rattle.std.proofs.shelf.Tests.{eq-eqb, ne-eqb, cases-eq}
 use Rattle.binary32.specs.Words.{fieldOf, fractionOf, magnitudeOf, normalOf, classOf, classWith}
 use Rattle.binary32.specs.Sizes.{size}
 pub use Rattle.binary32.specs.Normal.{Stands, Sized}
-use Rattle.binary32.specs.Normal.{Normalized, ProperClass}
+use Rattle.binary32.specs.Normal.{Normalized}
 use Rattle.binary32.specs.declared.word.NormalForm.{NormalForm}
 use Rattle.binary32.specs.declared.word.Class.{Class}
 use Rattle.binary32.specs.declared.word.Class.the-variants.{Nan, Infinity, Zero, Finite}
@@ -94,12 +94,3 @@ class-sized E F m narrow fits field fraction =
 -- a finite nonzero word has a normal form, which stands for its size
 pub class-stands : (w : ℕ) → Sized (classOf w) (size (magnitudeOf w))
 class-stands w = class-sized (fieldOf w) (fractionOf w) (magnitudeOf w) (omega arith) (omega arith) (omega arith) (omega arith)
-
-normalized-of : (p : Class) (s : ℕ) → Sized p s → ProperClass p
-normalized-of Nan s sized = tt
-normalized-of Infinity s sized = tt
-normalized-of Zero s sized = tt
-normalized-of (Finite n) s sized = sized .0
-
-pub class-normalized : (w : ℕ) → ProperClass (classOf w)
-class-normalized w = normalized-of (classOf w) (size (magnitudeOf w)) (class-stands w)

@@ -1,5 +1,5 @@
 -- The normal forms of a rounded step are normalized, and in a sum the larger one comes first.
-use mathlib.Core.Path.{_≡_, refl, sym, ap, _∙_}
+use mathlib.Core.Path.{_≡_, refl, sym, ap, subst, _∙_}
 use mathlib.Core.Bool.{Bool, true, false, cond, not, _&&_, _||_}
 use mathlib.Core.Logic.{_⊎_, inl, inr}
 use Prim.Native.Nat.{ℕ, suc, _+_, _-_, _*_, _/_, _%_, _^_, _≤_, _<_}
@@ -13,14 +13,15 @@ use Rattle.binary32.specs.Sizes.{size}
 use Rattle.binary32.specs.declared.step.Step.{Step}
 use Rattle.binary32.specs.declared.step.Step.the-variants.{Direct, Rounded}
 use Rattle.binary32.specs.Steps.{line, opposite, roundedSum, sumOf, productOf, quotientOf, rootOf, comparison, stepOf}
-use Rattle.binary32.specs.Normal.{Normalized, Ordered, Proper, ProperStep, ProperClass}
+use Rattle.binary32.specs.Normal.{Normalized, Ordered, Proper, ProperStep}
 use Rattle.binary32.specs.declared.operation.Operation.{Operation}
 use Rattle.binary32.specs.declared.operation.Operation.the-variants.{Add, Subtract, Multiply, Divide, SquareRoot, Equal, Less, AtMost}
 use Rattle.binary32.specs.declared.word.NormalForm.{NormalForm}
 use Rattle.binary32.specs.declared.word.Class.{Class}
 use Rattle.binary32.specs.declared.word.Class.the-variants.{Nan, Infinity, Zero, Finite}
 use Rattle.binary32.proofs.Sizes.{size-rises}
-use Rattle.binary32.proofs.Normal.{Stands, Sized, class-stands, class-normalized}
+use Rattle.binary32.proofs.Direct.{of-sum, of-product, of-quotient, of-root, of-comparison}
+use Rattle.binary32.proofs.Normal.{Stands, Sized, class-stands}
 
 module _ (x y : NormalForm) (s t : ℕ) (normal-x : Normalized x) (normal-y : Normalized y) (stands-x : Stands x s) (stands-y : Stands y t) where
   -- the value with the smaller exponent is smaller
@@ -68,10 +69,6 @@ module _ (x y : NormalForm) (s t : ℕ) (normal-x : Normalized x) (normal-y : No
         let e : y .significand * 2 ^ x .exponent ≡ y .significand * 2 ^ y .exponent = ap (λ n. y .significand * 2 ^ n) same in
         omega arith
 
-proper-line : (fits : Bool) (w : ℕ) (others : Step) → ProperStep others → ProperStep (line fits w others)
-proper-line true w others proper = tt
-proper-line false w others proper = proper
-
 -- a sum of two finite words that do not cancel, the first of no smaller magnitude
 proper-rounded : (a b : ℕ) (x y : NormalForm) → Sized (Finite x) (size (magnitudeOf a)) → Sized (Finite y) (size (magnitudeOf b)) →
     magnitudeOf b ≤ magnitudeOf a → ((eqb (magnitudeOf a) (magnitudeOf b) && opposite a b) ≡ false) → ProperStep (roundedSum a b x y)
@@ -96,7 +93,7 @@ proper-rounded a b x y sized-x sized-y larger kept =
                 (omega (arith, size-rises (magnitudeOf b) (magnitudeOf a) (omega arith)))
           ]
 
-opposite-comm : (a b : ℕ) → opposite b a ≡ opposite a b
+pub opposite-comm : (a b : ℕ) → opposite b a ≡ opposite a b
 opposite-comm a b =
     elim (cases-bool (signBit a)) [
       | inl p ↦ elim (cases-bool (signBit b)) [ inl q ↦ rw (p, q) refl | inr q ↦ rw (p, q) refl ]
@@ -122,66 +119,23 @@ proper-finite a b x y sized-x sized-y =
           ]
     ]
 
-proper-sum : (a b : ℕ) (p q : Class) → Sized p (size (magnitudeOf a)) → Sized q (size (magnitudeOf b)) → ProperStep (sumOf a b p q)
-proper-sum a b Nan q sp sq = tt
-proper-sum a b Infinity Nan sp sq = tt
-proper-sum a b Infinity Infinity sp sq = proper-line (opposite a b) _ _ tt
-proper-sum a b Infinity Zero sp sq = tt
-proper-sum a b Infinity (Finite y) sp sq = tt
-proper-sum a b Zero Nan sp sq = tt
-proper-sum a b Zero Infinity sp sq = tt
-proper-sum a b Zero Zero sp sq = tt
-proper-sum a b Zero (Finite y) sp sq = tt
-proper-sum a b (Finite x) Nan sp sq = tt
-proper-sum a b (Finite x) Infinity sp sq = tt
-proper-sum a b (Finite x) Zero sp sq = tt
-proper-sum a b (Finite x) (Finite y) sp sq = proper-finite a b x y sp sq
+-- a class that is finite has a normal form that stands for the size
+finite-sized : (w : ℕ) (x : NormalForm) → classOf w ≡ Finite x → Sized (Finite x) (size (magnitudeOf w))
+finite-sized w x is = subst (λ p. Sized p (size (magnitudeOf w))) is (class-stands w)
 
-proper-product : (a b : ℕ) (p q : Class) → ProperClass p → ProperClass q → ProperStep (productOf a b p q)
-proper-product a b Nan q sp sq = tt
-proper-product a b Infinity Nan sp sq = tt
-proper-product a b Infinity Infinity sp sq = tt
-proper-product a b Infinity Zero sp sq = tt
-proper-product a b Infinity (Finite y) sp sq = tt
-proper-product a b Zero Nan sp sq = tt
-proper-product a b Zero Infinity sp sq = tt
-proper-product a b Zero Zero sp sq = tt
-proper-product a b Zero (Finite y) sp sq = tt
-proper-product a b (Finite x) Nan sp sq = tt
-proper-product a b (Finite x) Infinity sp sq = tt
-proper-product a b (Finite x) Zero sp sq = tt
-proper-product a b (Finite x) (Finite y) sp sq = (sp, sq)
-
-proper-quotient : (a b : ℕ) (p q : Class) → ProperClass p → ProperClass q → ProperStep (quotientOf a b p q)
-proper-quotient a b Nan q sp sq = tt
-proper-quotient a b Infinity Nan sp sq = tt
-proper-quotient a b Infinity Infinity sp sq = tt
-proper-quotient a b Infinity Zero sp sq = tt
-proper-quotient a b Infinity (Finite y) sp sq = tt
-proper-quotient a b Zero Nan sp sq = tt
-proper-quotient a b Zero Infinity sp sq = tt
-proper-quotient a b Zero Zero sp sq = tt
-proper-quotient a b Zero (Finite y) sp sq = tt
-proper-quotient a b (Finite x) Nan sp sq = tt
-proper-quotient a b (Finite x) Infinity sp sq = tt
-proper-quotient a b (Finite x) Zero sp sq = tt
-proper-quotient a b (Finite x) (Finite y) sp sq = (sp, sq)
-
-proper-root : (a : ℕ) (p : Class) → ProperClass p → ProperStep (rootOf a p)
-proper-root a Nan sp = tt
-proper-root a Infinity sp = proper-line (signBit a && true) _ _ tt
-proper-root a Zero sp = proper-line (signBit a && false) _ _ tt
-proper-root a (Finite x) sp = proper-line (signBit a && true) _ _ sp
-
-proper-comparison : (p q : Class) (holds : Bool) → ProperStep (comparison p q holds)
-proper-comparison p q holds = proper-line (not (isNan p || isNan q) && holds) 0x3f800000 (Direct (record { bits = 0 })) tt
+proper-sum : (a b : ℕ) → ProperStep (sumOf a b (classOf a) (classOf b))
+proper-sum a b =
+    of-sum ProperStep (λ w. tt) a b (classOf a) (classOf b)
+    (λ x y is-x is-y. proper-finite a b x y (finite-sized a x is-x) (finite-sized b y is-y))
 
 pub step-proper : (op : Operation) (a b : ℕ) → ProperStep (stepOf op a b)
-step-proper Add a b = proper-sum a b (classOf a) (classOf b) (class-stands a) (class-stands b)
-step-proper Subtract a b = proper-sum a (turnedOf b) (classOf a) (classOf (turnedOf b)) (class-stands a) (class-stands (turnedOf b))
-step-proper Multiply a b = proper-product a b (classOf a) (classOf b) (class-normalized a) (class-normalized b)
-step-proper Divide a b = proper-quotient a b (classOf a) (classOf b) (class-normalized a) (class-normalized b)
-step-proper SquareRoot a b = proper-root a (classOf a) (class-normalized a)
-step-proper Equal a b = proper-comparison (classOf a) (classOf b) _
-step-proper Less a b = proper-comparison (classOf a) (classOf b) _
-step-proper AtMost a b = proper-comparison (classOf a) (classOf b) _
+step-proper Add a b = proper-sum a b
+step-proper Subtract a b = proper-sum a (turnedOf b)
+step-proper Multiply a b =
+    of-product ProperStep (λ w. tt) a b (classOf a) (classOf b) (λ x y is-x is-y. (finite-sized a x is-x .0, finite-sized b y is-y .0))
+step-proper Divide a b =
+    of-quotient ProperStep (λ w. tt) a b (classOf a) (classOf b) (λ x y is-x is-y. (finite-sized a x is-x .0, finite-sized b y is-y .0))
+step-proper SquareRoot a b = of-root ProperStep (λ w. tt) a (classOf a) (λ x is. finite-sized a x is .0)
+step-proper Equal a b = of-comparison ProperStep (λ w. tt) (classOf a) (classOf b) _
+step-proper Less a b = of-comparison ProperStep (λ w. tt) (classOf a) (classOf b) _
+step-proper AtMost a b = of-comparison ProperStep (λ w. tt) (classOf a) (classOf b) _

@@ -42,9 +42,3 @@ Proper (Root x) = Normalized x
 abbrev pub ProperStep : Step → Type 0
 ProperStep (Direct w) = Unit {0}
 ProperStep (Rounded negative x) = Proper x
-
-abbrev pub ProperClass : Class → Type 0
-ProperClass Nan = Unit {0}
-ProperClass Infinity = Unit {0}
-ProperClass Zero = Unit {0}
-ProperClass (Finite n) = Normalized n

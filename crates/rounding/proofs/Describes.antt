@@ -1,5 +1,5 @@
 -- What the normal forms of a rounded step say of its exact result.
-use mathlib.Core.Path.{_≡_, refl, sym, ap, _∙_}
+use mathlib.Core.Path.{_≡_, refl, sym, ap, subst, _∙_}
 use mathlib.Core.Bool.{Bool, true, false, cond, not, _&&_, _||_}
 use mathlib.Core.Logic.{_⊎_, inl, inr}
 use Prim.Native.Nat.{ℕ, min, max, _+_, _-_, _*_, _/_, _%_, _^_, _≤_, _<_}
@@ -19,9 +19,10 @@ use Rattle.binary32.specs.declared.step.Step.the-variants.{Direct, Rounded}
 use Rattle.binary32.specs.declared.word.NormalForm.{NormalForm}
 use Rattle.binary32.specs.declared.word.Class.{Class}
 use Rattle.binary32.specs.declared.word.Class.the-variants.{Nan, Infinity, Zero, Finite}
+use Rattle.binary32.proofs.Direct.{of-sum, of-product, of-quotient, of-root, of-comparison}
 use Rattle.binary32.proofs.Levels.{plain-magnitude}
 use Rattle.binary32.proofs.Normal.{Stands, Sized, class-stands}
-use Rattle.binary32.proofs.Sizes.{size-rises}
+use Rattle.binary32.proofs.Steps.{opposite-comm}
 use Rattle.rounding.specs.Exact.{Value, ratio, root, sumOf, exactOf}
 use Rattle.rounding.specs.Nearest.{top}
 use Rattle.rounding.proofs.Neighbours.{size-keeps}
@@ -47,17 +48,6 @@ Describes (Root x) V = (s : ℕ) × Stands x s × (V ≡ root (s * 2 ^ 149))
 abbrev pub DescribesStep : Step → Value → Type 0
 DescribesStep (Direct w) V = Unit {0}
 DescribesStep (Rounded negative x) V = Describes x V
-
-describes-line : (fits : Bool) (w : ℕ) (others : Step) (V : Value) → DescribesStep others V → DescribesStep (line fits w others) V
-describes-line true w others V described = tt
-describes-line false w others V described = described
-
-opposite-comm : (a b : ℕ) → opposite b a ≡ opposite a b
-opposite-comm a b =
-    elim (cases-bool (signBit a)) [
-      | inl p ↦ elim (cases-bool (signBit b)) [ inl q ↦ rw (p, q) refl | inr q ↦ rw (p, q) refl ]
-      | inr p ↦ elim (cases-bool (signBit b)) [ inl q ↦ rw (p, q) refl | inr q ↦ rw (p, q) refl ]
-    ]
 
 exact-comm : (a b : ℕ) → sumOf b a ≡ sumOf a b
 exact-comm a b =
@@ -95,74 +85,34 @@ describes-finite a b x y stands-x stands-y candidate-a candidate-b =
           ]
     ]
 
+finite-stands : (w : ℕ) (x : NormalForm) → classOf w ≡ Finite x → Stands x (size (magnitudeOf w))
+finite-stands w x is = subst (λ p. Sized p (size (magnitudeOf w))) is (class-stands w) .1
+
 -- a finite nonzero word is no NaN
-Plain : Class → ℕ → Type 0
-Plain p m = isNan p ≡ false → m ≤ top
+finite-candidate : (w : ℕ) (x : NormalForm) → classOf w ≡ Finite x → magnitudeOf w ≤ top
+finite-candidate w x is = plain-magnitude w (ap isNan is)
 
-describes-sum : (a b : ℕ) (p q : Class) → Sized p (size (magnitudeOf a)) → Sized q (size (magnitudeOf b)) →
-    Plain p (magnitudeOf a) → Plain q (magnitudeOf b) → DescribesStep (sumStepOf a b p q) (sumOf a b)
-unfolding Plain
-describes-sum a b Nan q sp sq cp cq = tt
-describes-sum a b Infinity Nan sp sq cp cq = tt
-describes-sum a b Infinity Infinity sp sq cp cq = describes-line (opposite a b) _ _ _ tt
-describes-sum a b Infinity Zero sp sq cp cq = tt
-describes-sum a b Infinity (Finite y) sp sq cp cq = tt
-describes-sum a b Zero Nan sp sq cp cq = tt
-describes-sum a b Zero Infinity sp sq cp cq = tt
-describes-sum a b Zero Zero sp sq cp cq = tt
-describes-sum a b Zero (Finite y) sp sq cp cq = tt
-describes-sum a b (Finite x) Nan sp sq cp cq = tt
-describes-sum a b (Finite x) Infinity sp sq cp cq = tt
-describes-sum a b (Finite x) Zero sp sq cp cq = tt
-describes-sum a b (Finite x) (Finite y) sp sq cp cq = describes-finite a b x y (sp .1) (sq .1) (cp refl) (cq refl)
+describes-sum : (a b : ℕ) → DescribesStep (sumStepOf a b (classOf a) (classOf b)) (sumOf a b)
+describes-sum a b =
+    of-sum (λ step. DescribesStep step (sumOf a b)) (λ w. tt) a b (classOf a) (classOf b)
+    (λ x y is-x is-y.
+    describes-finite a b x y (finite-stands a x is-x) (finite-stands b y is-y) (finite-candidate a x is-x) (finite-candidate b y is-y))
 
-describes-product : (a b s t : ℕ) (p q : Class) → Sized p s → Sized q t → DescribesStep (productOf a b p q) (ratio (s * t) (2 ^ 149))
-describes-product a b s t Nan q sp sq = tt
-describes-product a b s t Infinity Nan sp sq = tt
-describes-product a b s t Infinity Infinity sp sq = tt
-describes-product a b s t Infinity Zero sp sq = tt
-describes-product a b s t Infinity (Finite y) sp sq = tt
-describes-product a b s t Zero Nan sp sq = tt
-describes-product a b s t Zero Infinity sp sq = tt
-describes-product a b s t Zero Zero sp sq = tt
-describes-product a b s t Zero (Finite y) sp sq = tt
-describes-product a b s t (Finite x) Nan sp sq = tt
-describes-product a b s t (Finite x) Infinity sp sq = tt
-describes-product a b s t (Finite x) Zero sp sq = tt
-describes-product a b s t (Finite x) (Finite y) sp sq = (s, t, record { first = sp .1; second = sq .1 }, refl)
-
-describes-quotient : (a b s t : ℕ) (p q : Class) → Sized p s → Sized q t → DescribesStep (quotientOf a b p q) (ratio (s * 2 ^ 149) t)
-describes-quotient a b s t Nan q sp sq = tt
-describes-quotient a b s t Infinity Nan sp sq = tt
-describes-quotient a b s t Infinity Infinity sp sq = tt
-describes-quotient a b s t Infinity Zero sp sq = tt
-describes-quotient a b s t Infinity (Finite y) sp sq = tt
-describes-quotient a b s t Zero Nan sp sq = tt
-describes-quotient a b s t Zero Infinity sp sq = tt
-describes-quotient a b s t Zero Zero sp sq = tt
-describes-quotient a b s t Zero (Finite y) sp sq = tt
-describes-quotient a b s t (Finite x) Nan sp sq = tt
-describes-quotient a b s t (Finite x) Infinity sp sq = tt
-describes-quotient a b s t (Finite x) Zero sp sq = tt
-describes-quotient a b s t (Finite x) (Finite y) sp sq = (s, t, record { first = sp .1; second = sq .1 }, refl)
-
-describes-root : (a s : ℕ) (p : Class) → Sized p s → DescribesStep (rootOf a p) (root (s * 2 ^ 149))
-describes-root a s Nan sp = tt
-describes-root a s Infinity sp = describes-line (signBit a && true) _ _ (root (s * 2 ^ 149)) tt
-describes-root a s Zero sp = describes-line (signBit a && false) _ _ (root (s * 2 ^ 149)) tt
-describes-root a s (Finite x) sp = describes-line (signBit a && true) _ _ (root (s * 2 ^ 149)) (s, sp .1, refl)
-
-describes-comparison : (p q : Class) (holds : Bool) (V : Value) → DescribesStep (comparison p q holds) V
-describes-comparison p q holds V = describes-line (not (isNan p || isNan q) && holds) 0x3f800000 (Direct (record { bits = 0 })) V tt
+both-stand : (a b : ℕ) (x y : NormalForm) → classOf a ≡ Finite x → classOf b ≡ Finite y → Operands x y (size (magnitudeOf a)) (size (magnitudeOf b))
+both-stand a b x y is-x is-y = record { first = finite-stands a x is-x; second = finite-stands b y is-y }
 
 pub step-describes : (op : Operation) (a b : ℕ) → DescribesStep (stepOf op a b) (exactOf op a b)
-unfolding Plain
-step-describes Add a b = describes-sum a b (classOf a) (classOf b) (class-stands a) (class-stands b) (plain-magnitude a) (plain-magnitude b)
-step-describes Subtract a b =
-    describes-sum a (turnedOf b) (classOf a) (classOf (turnedOf b)) (class-stands a) (class-stands (turnedOf b)) (plain-magnitude a) (plain-magnitude (turnedOf b))
-step-describes Multiply a b = describes-product a b (size (magnitudeOf a)) (size (magnitudeOf b)) (classOf a) (classOf b) (class-stands a) (class-stands b)
-step-describes Divide a b = describes-quotient a b (size (magnitudeOf a)) (size (magnitudeOf b)) (classOf a) (classOf b) (class-stands a) (class-stands b)
-step-describes SquareRoot a b = describes-root a (size (magnitudeOf a)) (classOf a) (class-stands a)
-step-describes Equal a b = describes-comparison (classOf a) (classOf b) _ _
-step-describes Less a b = describes-comparison (classOf a) (classOf b) _ _
-step-describes AtMost a b = describes-comparison (classOf a) (classOf b) _ _
+step-describes Add a b = describes-sum a b
+step-describes Subtract a b = describes-sum a (turnedOf b)
+step-describes Multiply a b =
+    of-product (λ step. DescribesStep step (exactOf Multiply a b)) (λ w. tt) a b (classOf a) (classOf b)
+    (λ x y is-x is-y. (size (magnitudeOf a), size (magnitudeOf b), both-stand a b x y is-x is-y, refl))
+step-describes Divide a b =
+    of-quotient (λ step. DescribesStep step (exactOf Divide a b)) (λ w. tt) a b (classOf a) (classOf b)
+    (λ x y is-x is-y. (size (magnitudeOf a), size (magnitudeOf b), both-stand a b x y is-x is-y, refl))
+step-describes SquareRoot a b =
+    of-root (λ step. DescribesStep step (exactOf SquareRoot a b)) (λ w. tt) a (classOf a)
+    (λ x is. (size (magnitudeOf a), finite-stands a x is, refl))
+step-describes Equal a b = of-comparison (λ step. DescribesStep step (exactOf Equal a b)) (λ w. tt) (classOf a) (classOf b) _
+step-describes Less a b = of-comparison (λ step. DescribesStep step (exactOf Less a b)) (λ w. tt) (classOf a) (classOf b) _
+step-describes AtMost a b = of-comparison (λ step. DescribesStep step (exactOf AtMost a b)) (λ w. tt) (classOf a) (classOf b) _
