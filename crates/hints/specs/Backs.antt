@@ -1,12 +1,11 @@
 -- When a word and six hints back a rounded step: the widths, both equations, the rule for up, and the word.
 use Prim.Native.Nat.{ℕ, _+_, _-_, _*_, _^_, _≤_, _<_}
 use mathlib.Core.Path.{_≡_}
-use mathlib.Core.Bool.{cond}
 use Rattle.binary32.specs.Words.{composed}
 use Rattle.binary32.specs.declared.step.Step.{Step}
 use Rattle.binary32.specs.declared.step.Step.the-variants.{Direct, Rounded}
 use Rattle.hints.specs.Settings.{settingOf}
-use Rattle.hints.specs.Scheme.{mainWidth, exponentOf, cutOf, roundsUp, magnitudeFrom}
+use Rattle.hints.specs.Scheme.{mainWidth, exponentOf, cutOf, upOf, magnitudeFrom}
 use Rattle.hints.specs.declared.setting.Setting.{Setting}
 use Rattle.hints.specs.declared.setting.Kind.{Kind}
 use Rattle.hints.specs.declared.setting.Kind.the-variants.{Sum, Difference, Product, Quotient, Root}
@@ -41,7 +40,7 @@ pub record Backs (σ : Setting) (w : Written) : Type 0 where
   pub up-width : w .hints .up ≤ 1
   pub first-equation : FirstEquation (σ .kind) (σ .first) (σ .second) (σ .shift) (w .hints .main) (w .hints .rest)
   pub second-equation : w .hints .main * 2 ^ w .hints .lift ≡ w .hints .keep * 2 ^ cutOf (σ .scale) (w .hints .lift) + w .hints .drop
-  pub up-rule : w .hints .up ≡ cond (roundsUp (cutOf (σ .scale) (w .hints .lift)) (w .hints .rest) (w .hints .keep) (w .hints .drop)) 1 0
+  pub up-rule : w .hints .up ≡ upOf (cutOf (σ .scale) (w .hints .lift)) (w .hints .rest) (w .hints .keep) (w .hints .drop)
   pub word-is : w .word .bits ≡ composed (σ .negative) (magnitudeFrom (exponentOf (σ .scale) (w .hints .lift)) (w .hints .keep) (w .hints .up))
 
 -- a direct step has six zeros

@@ -17,6 +17,10 @@ exponentOf scale lift = scale - (224 + lift)
 abbrev pub cutOf : ℕ → ℕ → ℕ
 cutOf scale lift = min (exponentOf scale lift + 251 + lift - scale) 52
 
+-- what the hint up has to be
+abbrev pub upOf : ℕ → ℕ → ℕ → ℕ → ℕ
+upOf k rest keep drop = cond (roundsUp k rest keep drop) 1 0
+
 -- the magnitude of the word, which stops at infinity
 abbrev pub magnitudeFrom : ℕ → ℕ → ℕ → ℕ
 magnitudeFrom exponent keep up = min (exponent * 2 ^ 23 + keep + up) 0x7f800000

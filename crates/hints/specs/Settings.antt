@@ -8,8 +8,8 @@ use Rattle.hints.specs.declared.setting.Setting.{Setting}
 use Rattle.hints.specs.declared.setting.Kind.{Kind}
 use Rattle.hints.specs.declared.setting.Kind.the-variants as kind
 
--- The exponents of normal forms are 172 too high, and a scale is s + 400: so s of a sum, e₁ − 26, has the
--- scale (e₁ + 172) + 202, and likewise below.
+-- The exponents of normal forms are 172 too high, and a scale is s + 400. So s = e₁ − 26 of a sum has the scale
+-- (e₁ + 172) + 202; s = e₁ + e₂ of a product, s = e₁ − e₂ − 26 of a quotient and s = (e₁ − t) / 2 of a root go likewise.
 
 -- 26 − g, where g is the smaller of e₁ − e₂ and 26
 abbrev pub alignmentOf : NormalForm → NormalForm → ℕ
@@ -19,39 +19,15 @@ alignmentOf x y = 26 - min (x .exponent - y .exponent) 26
 abbrev pub radicandShift : NormalForm → ℕ
 radicandShift x = 26 + x .exponent % 2
 
+abbrev pub twoOf : Kind → Bool → NormalForm → NormalForm → ℕ → ℕ → Setting
+twoOf k n x y shift scale =
+    record { kind = k; negative = n; first = x .significand; second = y .significand; shift = shift; scale = scale }
+
 abbrev pub settingOf : Bool → Exact → Setting
-settingOf n (Sum x y) = record {
-  kind = kind.Sum;
-  negative = n;
-  first = x .significand;
-  second = y .significand;
-  shift = alignmentOf x y;
-  scale = x .exponent + 202;
-}
-settingOf n (Difference x y) = record {
-  kind = kind.Difference;
-  negative = n;
-  first = x .significand;
-  second = y .significand;
-  shift = alignmentOf x y;
-  scale = x .exponent + 202;
-}
-settingOf n (Product x y) = record {
-  kind = kind.Product;
-  negative = n;
-  first = x .significand;
-  second = y .significand;
-  shift = 0;
-  scale = x .exponent + y .exponent + 56;
-}
-settingOf n (Quotient x y) = record {
-  kind = kind.Quotient;
-  negative = n;
-  first = x .significand;
-  second = y .significand;
-  shift = 0;
-  scale = x .exponent + 374 - y .exponent;
-}
+settingOf n (Sum x y) = twoOf kind.Sum n x y (alignmentOf x y) (x .exponent + 202)
+settingOf n (Difference x y) = twoOf kind.Difference n x y (alignmentOf x y) (x .exponent + 202)
+settingOf n (Product x y) = twoOf kind.Product n x y 0 (x .exponent + y .exponent + 56)
+settingOf n (Quotient x y) = twoOf kind.Quotient n x y 0 (x .exponent + 374 - y .exponent)
 settingOf n (Root x) = record {
   kind = kind.Root;
   negative = n;

@@ -1,7 +1,7 @@
 -- What the writer gives.
 use mathlib.Core.Path.{_≡_}
 use Prim.Native.Nat.{ℕ, _+_, _-_, _*_, _/_, _%_, _^_}
-use mathlib.Core.Bool.{Bool, cond}
+use mathlib.Core.Bool.{Bool}
 use Rattle.std.specs.declared.option.Option.{Option}
 use Rattle.std.specs.declared.option.Option.the-variants.{Some, None}
 use Rattle.std.specs.declared.result.Result.{Result}
@@ -17,7 +17,7 @@ use Rattle.rounding.specs.Exact.{Value, exactOf}
 use Rattle.rounding.specs.Nearest.{Nearest, result}
 use Rattle.hints.specs.Backs.{BacksStep}
 use Rattle.hints.specs.Settings.{settingOf}
-use Rattle.hints.specs.Scheme.{principalOf, liftOf, exponentOf, cutOf, roundsUp, magnitudeFrom}
+use Rattle.hints.specs.Scheme.{principalOf, liftOf, exponentOf, cutOf, upOf, magnitudeFrom}
 use Rattle.hints.specs.declared.setting.Setting.{Setting}
 use Rattle.hints.specs.declared.writer.Hints.{Hints}
 use Rattle.hints.specs.declared.writer.Written.{Written}
@@ -35,7 +35,7 @@ abbrev pub cutAt : Bool → ℕ → ℕ → ℕ → ℕ → ℕ → Written
 cutAt negative exponent main rest lift k =
     filled negative exponent main rest lift
     (main * 2 ^ lift / 2 ^ k) (main * 2 ^ lift % 2 ^ k)
-    (cond (roundsUp k rest (main * 2 ^ lift / 2 ^ k) (main * 2 ^ lift % 2 ^ k)) 1 0)
+    (upOf k rest (main * 2 ^ lift / 2 ^ k) (main * 2 ^ lift % 2 ^ k))
 
 abbrev pub fromPrincipal : Bool → ℕ → ℕ → ℕ → Written
 fromPrincipal negative scale main rest =

@@ -1,7 +1,7 @@
 // The small steps of the writer: powers of two, a quotient, a root and a cut.
 ghost use mathlib.Core.Path.{_≡_};
 ghost use Prim.Native.Nat.{_+_, _-_, _*_, _/_, _%_, _^_, _<_, _≤_};
-ghost use Rattle.hints.specs.Scheme.{floorRoot, roundsUp, liftOf};
+ghost use Rattle.hints.specs.Scheme.{floorRoot, liftOf};
 
 // 2^`k`.
 pub(crate) fn power(k: u32) -> u64
@@ -53,17 +53,6 @@ pub(crate) fn cut(number: u64, k: u32) -> (u64, u64)
     ensures { λ r. ⌜ r ≡ (number / 2 ^ k, number % 2 ^ k) ⌝ }
 {
     (number >> k, number & (power(k) - 1))
-}
-
-// Whether a cut at bit `k` rounds up: what it drops lies above the middle, or on it and something was
-// left over before or the part that is kept is odd.
-pub(crate) fn rounds_up(k: u32, rest: u64, keep: u64, drop: u64) -> bool
-    requires { ⌜ k < 63 ⌝ ∗ ⌜ drop < 2 ^ 63 ⌝ }
-    ensures { λ r. ⌜ r ≡ roundsUp k rest keep drop ⌝ }
-{
-    let twice = 2 * drop;
-    let whole = power(k);
-    twice > whole || (twice == whole && (rest != 0 || keep % 2 == 1))
 }
 
 // How far main has to be moved up to stand from bit 50 down, and main so moved.

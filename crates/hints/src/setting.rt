@@ -4,7 +4,7 @@ ghost use Rattle.binary32.specs.Normal.{Proper};
 ghost use Rattle.binary32.specs.Steps.{stepOf};
 ghost use Prim.Native.Nat.{_≤_};
 ghost use Rattle.hints.specs.Cases.{caseOf, FitCase};
-ghost use Rattle.hints.specs.Settings.{settingOf, alignmentOf, radicandShift};
+ghost use Rattle.hints.specs.Settings.{settingOf, twoOf, alignmentOf, radicandShift};
 use binary32::Exact;
 use binary32::NormalForm;
 use binary32::Operation;
@@ -38,6 +38,17 @@ pub struct Setting {
 // below it would come out wrong.
 const GUARD_BITS: u32 = 26;
 
+// A scale is 400 above s, and the exponent of a normal form 172 above e. So s = e1 − 26 of a sum asks for 400 − 26 − 172,
+// s = e1 + e2 of a product for 400 − 2 · 172, s = e1 − e2 − 26 of a quotient for 400 − 26, and s = (e1 − t) / 2 of a
+// root for 2 · 400 − 172 before it is halved.
+const SUM_BIAS: u32 = 202;
+
+const PRODUCT_BIAS: u32 = 56;
+
+const QUOTIENT_BIAS: u32 = 374;
+
+const ROOT_BIAS: u32 = 628;
+
 // The shift of the smaller operand of a sum: none below the guard bits.
 fn alignment(x: NormalForm, y: NormalForm) -> u32
     requires { ⌜ y .exponent ≤ x .exponent ⌝ }
@@ -54,44 +65,71 @@ fn radicand_shift(x: NormalForm) -> u32
 }
 
 impl Setting {
+    // The setting of a step with two operands.
+    fn two(
+        kind: Kind,
+        negative: bool,
+        x: NormalForm,
+        y: NormalForm,
+        shift: u32,
+        scale: u32,
+    ) -> Setting
+        ensures { λ r. ⌜ r ≡ twoOf kind negative x y shift scale ⌝ }
+    {
+        Setting {
+            kind,
+            negative,
+            first: x.significand as u64,
+            second: y.significand as u64,
+            shift,
+            scale,
+        }
+    }
+
     // The setting of an exact result.
     pub(crate) fn of(negative: bool, exact: Exact) -> Setting
         requires { ⌜ Proper exact ⌝ }
         ensures { λ r. ⌜ r ≡ settingOf negative exact ⌝ }
     {
         match exact {
-            Exact::Sum(x, y) => Setting {
-                kind: Kind::Sum,
+            Exact::Sum(x, y) => Setting::two(
+                Kind::Sum,
                 negative,
-                first: x.significand as u64,
-                second: y.significand as u64,
-                shift: alignment(x, y),
-                scale: x.exponent + 202,
-            },
-            Exact::Difference(x, y) => Setting {
-                kind: Kind::Difference,
-                negative,
-                first: x.significand as u64,
-                second: y.significand as u64,
-                shift: alignment(x, y),
-                scale: x.exponent + 202,
-            },
-            Exact::Product(x, y) => Setting {
-                kind: Kind::Product,
-                negative,
-                first: x.significand as u64,
-                second: y.significand as u64,
-                shift: 0,
-                scale: x.exponent + y.exponent + 56,
-            },
-            Exact::Quotient(x, y) => Setting {
-                kind: Kind::Quotient,
-                negative,
-                first: x.significand as u64,
-                second: y.significand as u64,
-                shift: 0,
-                scale: x.exponent + 374 - y.exponent,
-            },
+                x,
+                y,
+                alignment(x, y),
+                x.exponent + SUM_BIAS,
+            ),
+            Exact::Difference(x, y) => {
+                Setting::two(
+                    Kind::Difference,
+                    negative,
+                    x,
+                    y,
+                    alignment(x, y),
+                    x.exponent + SUM_BIAS,
+                )
+            }
+            Exact::Product(x, y) => {
+                Setting::two(
+                    Kind::Product,
+                    negative,
+                    x,
+                    y,
+                    0,
+                    x.exponent + y.exponent + PRODUCT_BIAS,
+                )
+            }
+            Exact::Quotient(x, y) => {
+                Setting::two(
+                    Kind::Quotient,
+                    negative,
+                    x,
+                    y,
+                    0,
+                    x.exponent + QUOTIENT_BIAS - y.exponent,
+                )
+            }
             Exact::Root(x) => {
                 let shift = radicand_shift(x);
                 Setting {
@@ -100,7 +138,7 @@ impl Setting {
                     first: x.significand as u64,
                     second: 0,
                     shift,
-                    scale: (x.exponent + 628 - shift) / 2,
+                    scale: (x.exponent + ROOT_BIAS - shift) / 2,
                 }
             }
         }

@@ -13,8 +13,8 @@ use crate::leaves::cut;
 use crate::leaves::lifted;
 use crate::leaves::moved_up;
 use crate::leaves::quotient;
-use crate::leaves::rounds_up;
 use crate::leaves::square_root;
+use crate::place::Cut;
 use crate::refusal::Refusal;
 use crate::setting::Kind;
 use crate::setting::Setting;
@@ -76,17 +76,15 @@ fn principal(setting: Setting) -> (u64, u64)
 
 // The word and the hints, from main and rest.
 fn filled_from(negative: bool, scale: u32, main: u64, rest: u64) -> Written
-    requires { ⌜ 0 < main ⌝ ∗ ⌜ main < 2 ^ 51 ⌝ ∗ ⌜ scale ≤ 1000 ⌝ }
+    requires { ⌜ 0 < main ⌝ ∗ ⌜ main < 2 ^ 51 ⌝ }
     ensures { λ r. ⌜ r ≡ fromPrincipal negative scale main rest ⌝ }
 {
     let (lift, number) = lifted(main);
-    let exponent = scale.saturating_sub(224 + lift);
-    let k = (exponent + 251 + lift - scale).min(52);
-    let (keep, drop) = cut(number, k);
-    let up = if rounds_up(k, rest, keep, drop) { 1 } else { 0 };
-    let magnitude = (exponent as u64 * 0x80_0000 + keep + up).min(0x7f80_0000);
+    let place = Cut::of(scale, lift);
+    let (keep, drop) = cut(number, place.place());
+    let up = place.up(rest, keep, drop);
     Written {
-        word: Word::compose(negative, magnitude as u32),
+        word: place.word(negative, keep, up),
         hints: Hints {
             main,
             rest,

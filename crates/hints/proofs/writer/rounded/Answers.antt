@@ -16,7 +16,7 @@ filled-from-requires c κs =
     let fit = c .pre in
     let within = main-within (σ .kind) (σ .first) (σ .second) (σ .shift) (fit .low) (fit .high) (fit .second-high) (fit .suits) in
     let room = pow-mono {i = mainWidth (σ .kind)} {j = 51} (width-at-most (σ .kind)) in
-    rw (c .principal-main .ensures) (within .some, (omega (arith, within .width), fit .scaled))
+    rw (c .principal-main .ensures) (within .some, omega (arith, within .width))
 
 pub returns : need.returns
 returns c =
