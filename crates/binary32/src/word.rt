@@ -81,8 +81,6 @@ impl Word {
 
     pub const ZERO: Word = Word { bits: 0 };
 
-    pub const NEGATIVE_ZERO: Word = Word { bits: 0x8000_0000 };
-
     pub const ONE: Word = Word { bits: 0x3f80_0000 };
 
     // Bit 31.

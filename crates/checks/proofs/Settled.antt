@@ -28,7 +28,8 @@ use Rattle.hints.proofs.Complete.{scheme-is-written}
 use Rattle.hints.proofs.Settings.{setting-fits}
 use Rattle.hints.proofs.Unique.{backs-unique}
 use Rattle.checks.specs.Equations.{balanced, firstEquation, secondEquation}
-use Rattle.checks.specs.Examined.{Outcome, upOf, examinedDirect, examinedRounded, examinedCase, examined, claimOf, Sound}
+use Rattle.hints.specs.Scheme.{upOf}
+use Rattle.checks.specs.Examined.{Outcome, examinedDirect, examinedRounded, examinedCase, examined, claimOf, Sound}
 use Rattle.checks.specs.Widths.{frontOutside, backOutside, someHint}
 use Rattle.checks.specs.declared.flaw.Flaw.the-variants as flaw
 use Rattle.checks.proofs.Passed.{check-passed, check-passes, widths-passed, widths-pass, front-within, within-front, back-within, within-back, no-hints, hints-none, first-holds, holds-first}

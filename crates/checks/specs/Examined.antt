@@ -11,7 +11,7 @@ use Rattle.binary32.specs.Words.{composed}
 use Rattle.binary32.specs.declared.operation.Operation.{Operation}
 use Rattle.binary32.specs.declared.word.Word.{Word}
 use Rattle.hints.specs.Cases.{caseOf}
-use Rattle.hints.specs.Scheme.{exponentOf, cutOf, roundsUp, magnitudeFrom}
+use Rattle.hints.specs.Scheme.{exponentOf, cutOf, upOf, magnitudeFrom}
 use Rattle.hints.specs.Writer.{writtenStep}
 use Rattle.hints.specs.declared.setting.Case.{Case}
 use Rattle.hints.specs.declared.setting.Case.the-variants.{Direct, Rounded}
@@ -38,10 +38,6 @@ checkWidths None later = later
 -- the last check: the claimed word is this one
 abbrev pub wordChecked : ℕ → ℕ → Outcome
 wordChecked claimed word = check (eqb claimed word) flaw.Word (Ok tt)
-
--- what the hint up has to be
-abbrev pub upOf : ℕ → ℕ → ℕ → ℕ → ℕ
-upOf k rest keep drop = cond (roundsUp k rest keep drop) 1 0
 
 abbrev pub examinedDirect : Word → Word → Hints → Outcome
 examinedDirect word claimed h = checkWidths (someHint h) (wordChecked (claimed .bits) (word .bits))

@@ -1,6 +1,7 @@
 // What can be wrong with a claim.
 ghost use mathlib.Core.Path.{_≡_};
-ghost use Rattle.checks.specs.Flaws.{flawNumber};
+ghost use Rattle.checks.specs.Flaws.{flawNumber, flawLayer};
+use hints::Layer;
 
 #[derive(Clone, Copy, PartialEq, Eq, Debug)]
 pub enum Flaw {
@@ -23,6 +24,17 @@ impl Flaw {
             Flaw::SecondEquation => 8,
             Flaw::Up => 9,
             Flaw::Word => 10,
+        }
+    }
+
+    // The part of the checks that refuses.
+    pub fn layer(self) -> Layer
+        ensures { λ r. ⌜ r ≡ flawLayer self ⌝ }
+    {
+        match self {
+            Flaw::Width(_) => Layer::Hints,
+            Flaw::FirstEquation | Flaw::SecondEquation | Flaw::Up => Layer::Equations,
+            Flaw::Word => Layer::Word,
         }
     }
 }

@@ -1,6 +1,3 @@
-use Prim.Native.Nat.{_≤_}
-use native.Mathlib.Omega.{arith}
-use lib.Pow.{pow-mono}
 use Rattle.checks.proofs.Narrow.{first-narrow, second-narrow}
 use Rattle.checks.proofs.Passed.{front-within, back-within}
 use Rattle.checks.proofs.claim.examine_rounded.Needs as need
@@ -19,16 +16,8 @@ pub holds-requires-2 : need.holds-requires-2
 holds-requires-2 g c κs =
     let σ = c .args .setting in
     let h = c .args .hints in
-    let k = c .cut-of-cut .result .k in
+    let k = c .place-k .result in
     let front = front-within (σ .kind) (σ .second) h (c .in-rest .ensures tt) in
     let back = back-within k h (c .in-rest-back-outside .ensures tt) in
-    let high : k ≤ 52 = omega (arith, c .cut-of-cut .ensures .k) in
     rw (c .second-equation .ensures)
-    (second-narrow k h high (front .lift-width) (front .lift-high) (back .keep-width) (back .drop-width))
-
-pub up-of-requires : need.up-of-requires
-up-of-requires g c κs =
-    let k = c .cut-of-cut .result .k in
-    let back = back-within k (c .args .hints) (c .in-rest-back-outside .ensures tt) in
-    let high : k ≤ 52 = omega (arith, c .cut-of-cut .ensures .k) in
-    (high, omega (arith, back .drop-width, pow-mono {i = k} {j = 52} high))
+    (second-narrow k h (c .place-k .ensures .bound) (front .lift-width) (front .lift-high) (back .keep-width) (back .drop-width))
