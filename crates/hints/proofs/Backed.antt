@@ -38,13 +38,6 @@ principal-solves Root first second shift low high second-high suits =
     let is = digits-root 26 n (omega arith) in
     record { equation = omega (arith, is .below); width = omega (arith, is .below, is .above) }
 
--- k is at least 27, since s + k = u + lift, and u is at least s − lift + 27
-pub cut-low : (scale lift : ℕ) → 27 ≤ cutOf scale lift
-cut-low scale lift = omega arith
-
-pub cut-high : (scale lift : ℕ) → cutOf scale lift ≤ 52
-cut-high scale lift = omega arith
-
 -- what stands above bit k of a number below 2^51
 kept-below : (n k : ℕ) → n < 2 ^ 51 → n / 2 ^ k < 2 ^ (51 - k)
 kept-below n k small =

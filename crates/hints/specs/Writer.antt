@@ -24,7 +24,7 @@ use Rattle.hints.specs.declared.writer.Written.{Written}
 use Rattle.hints.specs.declared.refusal.Refusal.{Refusal}
 use Rattle.hints.specs.declared.refusal.Refusal.the-variants.{UnknownCode}
 
--- the word and the hints from main, rest, lift, k, keep, drop and up
+-- the word and the hints, from the sign, u + 149 and the six hints
 abbrev pub filled : Bool → ℕ → ℕ → ℕ → ℕ → ℕ → ℕ → ℕ → Written
 filled negative exponent main rest lift keep drop up = record {
   word = record { bits = composed negative (magnitudeFrom exponent keep up) };

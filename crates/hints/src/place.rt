@@ -16,7 +16,7 @@ const TO_PLACE: u64 = 251;
 // No main has a bit at 51, so a cut from there on keeps nothing, and one at bit 52 rounds nothing up.
 const HIGHEST: u64 = 52;
 
-// A cut at bit `k`. The word's exponent field is `exponent`, or one more where what is kept reaches bit 23.
+// A cut at bit `k`. `exponent` is u + 149: the word's magnitude is `exponent` · 2^23 + keep + up.
 #[derive(Clone, Copy)]
 pub struct Cut {
     exponent: u64,

@@ -22,7 +22,8 @@ pub enum Kind {
 
 // `first` and `second` are the significands of the operands, in a sum or a difference the larger
 // operand's first; a root has no second. `shift` is how far up the smaller operand of a sum stands, or
-// the radicand of a root. The exact result is the hint main, and what it leaves over, times 2^(`scale` − 400).
+// the radicand of a root. The exact result is the hint main, and what it leaves over, times 2^(`scale` − 400), but in a sum
+// whose exponents differ by more than 26.
 #[derive(Clone, Copy)]
 pub struct Setting {
     pub kind: Kind,
@@ -33,9 +34,8 @@ pub struct Setting {
     pub scale: u32,
 }
 
-// How many bits a sum keeps below the larger operand: enough that what is cut off the smaller one
-// never decides the rounding. With 24 the difference of 1 and a little less than half of the spacing
-// below it would come out wrong.
+// How far below the larger operand the smaller one of a sum may count as standing. One that stands further down is less than a
+// quarter of the spacing even here, and decides nothing; held at 24 it could.
 const GUARD_BITS: u32 = 26;
 
 // A scale is 400 above s, and the exponent of a normal form 172 above e. So s = e1 − 26 of a sum asks for 400 − 26 − 172,

@@ -1,4 +1,4 @@
--- A step that is rounded has a sound exact result, so its result is the nearest.
+-- A step that is rounded has a sound exact result.
 use mathlib.Core.Path.{_≡_, refl, ap}
 use mathlib.Core.Bool.{Bool, true, false, cond}
 use mathlib.Core.Logic.{inl, inr}
@@ -17,9 +17,6 @@ use Rattle.binary32.specs.declared.word.Class.{Class}
 use Rattle.binary32.specs.declared.word.Class.the-variants.{Nan, Infinity, Zero, Finite}
 use Rattle.binary32.proofs.Sizes.{size-rises}
 use Rattle.rounding.specs.Exact.{ratio, Sound, exactOf}
-use Rattle.rounding.specs.Nearest.{nearest, resultWith}
-use Rattle.rounding.specs.Laws.{Rounds-steps}
-use Rattle.rounding.proofs.Climb.{is-nearest}
 
 either-sound : (t : Bool) (m n : ℕ) → Sound (cond t (ratio m 1) (ratio n 1))
 either-sound true m n = omega arith
@@ -62,7 +59,3 @@ sound-exact SquareRoot a b negative exact rounded = omega arith
 sound-exact Equal a b negative exact rounded = omega arith
 sound-exact Less a b negative exact rounded = omega arith
 sound-exact AtMost a b negative exact rounded = omega arith
-
-pub rounds-steps : Rounds-steps
-rounds-steps op a b negative exact rounded =
-    (nearest (exactOf op a b), is-nearest (exactOf op a b) (sound-exact op a b negative exact rounded), ap (λ s. resultWith s (exactOf op a b)) rounded)

@@ -1,15 +1,9 @@
 -- What holds of the nearest magnitude.
 use mathlib.Core.Path.{_≡_}
-use mathlib.Core.Bool.{Bool}
 use Prim.Native.Nat.{ℕ, min, _+_, _*_, _^_, _≤_}
 use Rattle.binary32.specs.Sizes.{size}
-use Rattle.binary32.specs.Words.{composed}
-use Rattle.binary32.specs.Steps.{stepOf}
-use Rattle.binary32.specs.declared.operation.Operation.{Operation}
-use Rattle.binary32.specs.declared.step.Exact.{Exact}
-use Rattle.binary32.specs.declared.step.Step.the-variants.{Rounded}
-use Rattle.rounding.specs.Exact.{Value, ratio, Sound, weight, half, exactOf}
-use Rattle.rounding.specs.Nearest.{Nearest, nearest, top, result}
+use Rattle.rounding.specs.Exact.{Value, ratio, Sound, weight, half}
+use Rattle.rounding.specs.Nearest.{Nearest, nearest, top}
 use Rattle.rounding.specs.Cut.{Lies, Cut, Close}
 
 -- The nearest magnitude of a value is nearest to it.
@@ -39,12 +33,6 @@ Rounds-cut =
 abbrev pub Keeps-close : Type 0
 Keeps-close =
     (V : Value) (c m S : ℕ) → Sound V → c ≤ top → 2 ^ 23 ≤ m → size c * 2 ^ 251 ≡ m * 2 ^ 26 * 2 ^ S → Close V m S → nearest V ≡ c
-
--- The result of a step that is rounded has the step's sign, and the magnitude that is nearest to the exact result.
-abbrev pub Rounds-steps : Type 0
-Rounds-steps =
-    (op : Operation) (a b : ℕ) (negative : Bool) (exact : Exact) → stepOf op a b ≡ Rounded negative exact →
-    (m : ℕ) × Nearest (exactOf op a b) m × (result op a b ≡ composed negative m)
 
 -- The laws of the nearest magnitude, together.
 pub record Rounding : Type 0 where
