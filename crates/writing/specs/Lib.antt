@@ -1,0 +1,4 @@
+pub mod Answers
+pub mod Tallies
+pub mod Texts
+pub mod Verdicts
