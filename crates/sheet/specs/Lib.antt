@@ -1,0 +1,4 @@
+pub mod Cells
+pub mod Operands
+pub mod Refusals
+pub mod Tables
