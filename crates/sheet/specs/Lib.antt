@@ -1,3 +1,4 @@
+pub mod Calls
 pub mod Cells
 pub mod Operands
 pub mod Refusals

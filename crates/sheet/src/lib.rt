@@ -1,5 +1,7 @@
 // A sheet of checked steps: inputs, claims that wait for their hints, and words that were accepted.
 mod cell;
+mod closed;
+mod opened;
 mod operands;
 mod refusal;
 mod table;
@@ -7,6 +9,8 @@ mod ticket;
 
 pub use cell::Cell;
 pub use cell::State;
+pub use closed::ClosedSheet;
+pub use opened::OpenSheet;
 pub use refusal::Refusal;
 pub use refusal::RefusalDebug;
 pub use refusal::RefusalPartialEq;

@@ -1,10 +1,14 @@
 // The operand cells of a claim that is entered.
+ghost use Prim.Native.Nat.{_<_};
 ghost use mathlib.Core.Path.{_≡_};
+ghost use Rattle.std.specs.Vec.{made};
+ghost use Rattle.sheet.specs.Calls.{allowed};
 ghost use Rattle.sheet.specs.Operands.{isRoot, operandChecked, operandsChecked, claimChecked};
 use crate::cell::State;
 use crate::cell::check_accepted;
 use crate::cell::check_taken;
 use crate::refusal::Refusal;
+use crate::table::Table;
 use binary32::Operation;
 
 pub(crate) fn is_root(operation: Operation) -> bool
@@ -38,4 +42,19 @@ pub(crate) fn check_claim(operation: Operation, first: State, second: State) -> 
     } else {
         check_operands(first, second)
     }
+}
+
+// The operation of a claim that may be entered. That there is room comes first, then the code, then the cells.
+pub(crate) fn allow(table: &Table, code: u32, first: u64, second: u64) -> Result<Operation, Refusal>
+    ensures value { λ r. ⌜ r ≡ allowed (now (table .entry)) code first second ⌝ }
+    ensures room { λ r. ⌜ made r (λ _. now (table .entry) .taken < 256) ⌝ }
+{
+    if !table.has_room() {
+        return Err(Refusal::Full);
+    }
+    let Some(operation) = Operation::from_code(code) else {
+        return Err(Refusal::UnknownCode);
+    };
+    check_claim(operation, table.state(first), table.state(second))?;
+    Ok(operation)
 }

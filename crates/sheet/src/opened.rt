@@ -1,0 +1,122 @@
+// An open sheet: words are put in, claims entered, settled and struck.
+ghost use mathlib.Core.Path.{_≡_};
+ghost use Rattle.sheet.specs.Calls.{modelOf, closedModelOf, opened, inputReply, inputAfter, enterReply, enterAfter, presentedAt, strikeReply, strikeAfter, readReply, closeAfter};
+use crate::cell::State;
+use crate::cell::word_in;
+use crate::closed::ClosedSheet;
+use crate::operands::allow;
+use crate::refusal::Refusal;
+use crate::table::Table;
+use crate::ticket::Stub;
+use crate::ticket::Ticket;
+use binary32::Word;
+use systems::System;
+
+#[derive(Drop)]
+pub struct OpenSheet<S: System> {
+    system: S,
+    serial: u32,
+    weight: u64,
+    table: Table,
+}
+
+impl<S: System> OpenSheet<S> {
+    // A sheet of which no cell is taken. Tickets for it have its serial.
+    pub fn new(serial: u32, weight: u64, system: S) -> Self
+        ensures model { λ r. ⌜ modelOf r ≡ opened serial weight ⌝ }
+        ensures system { λ r. ⌜ r .system ≡ system ⌝ }
+    {
+        OpenSheet {
+            system,
+            serial,
+            weight,
+            table: Table::empty(),
+        }
+    }
+
+    // Takes a cell for a word that is given, and returns the cell's number.
+    pub fn input(&mut self, word: Word) -> Result<u64, Refusal>
+        ensures reply { λ r. ⌜ r ≡ inputReply (modelOf (now (self .entry))) ⌝ }
+        ensures after { λ _. ⌜ modelOf (now (self .exit)) ≡ inputAfter (modelOf (now (self .entry))) word ⌝ }
+    {
+        if self.table.has_room() {
+            Ok(self.table.take(State::Input(word)))
+        } else {
+            Err(Refusal::Full)
+        }
+    }
+
+    // Takes a cell for a claim: that the operation with this code, on the words of two cells, has this word. The ticket is what
+    // the claim is settled or struck with.
+    pub fn enter(
+        &mut self,
+        code: u32,
+        first: u64,
+        second: u64,
+        word: Word,
+    ) -> Result<Ticket, Refusal>
+        ensures reply { λ r. ⌜ r ≡ enterReply (modelOf (now (self .entry))) code first second ⌝ }
+        ensures after { λ _. ⌜ modelOf (now (self .exit)) ≡ enterAfter (modelOf (now (self .entry))) code first second word ⌝ }
+    {
+        let operation = allow(&self.table, code, first, second)?;
+        let cell = self.table.take(State::Pending {
+            operation,
+            first,
+            second,
+            word,
+        });
+        Ok(Ticket::new(self.serial, cell))
+    }
+
+    // The state of the cell that a ticket names.
+    fn presented(&self, stub: Stub) -> State
+        ensures { λ r. ⌜ r ≡ presentedAt (modelOf (now (self .entry))) (stub .serial) (stub .cell) ⌝ }
+    {
+        if stub.serial == self.serial {
+            self.table.state(stub.cell)
+        } else {
+            State::Free
+        }
+    }
+
+    // Gives a pending claim up.
+    pub fn strike(&mut self, ticket: Ticket) -> Result<u64, Refusal>
+        ensures reply { λ r. ⌜ r ≡ strikeReply (modelOf (now (self .entry))) ticket ⌝ }
+        ensures after { λ _. ⌜ modelOf (now (self .exit)) ≡ strikeAfter (modelOf (now (self .entry))) ticket ⌝ }
+    {
+        let stub = ticket.spend();
+        match self.presented(stub) {
+            State::Pending { .. } => {
+                self.table.strike(stub.cell);
+                Ok(stub.cell)
+            }
+            _ => Err(Refusal::BadTicket),
+        }
+    }
+
+    // The word of an accepted cell.
+    pub fn read(&self, cell: u64) -> Result<Word, Refusal>
+        ensures { λ r. ⌜ r ≡ readReply (modelOf (now (self .entry))) cell ⌝ }
+    {
+        word_in(self.table.state(cell))
+    }
+
+    // Ends the entering and settling of claims, and strikes those that are pending.
+    pub fn close(self) -> ClosedSheet<S>
+        ensures { λ r. ⌜ closedModelOf r ≡ closeAfter (modelOf self) ⌝ }
+    {
+        let OpenSheet {
+            system,
+            serial,
+            weight,
+            mut table,
+        } = self;
+        table.close();
+        ClosedSheet {
+            system,
+            serial,
+            weight,
+            table,
+        }
+    }
+}
