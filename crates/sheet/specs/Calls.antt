@@ -90,10 +90,18 @@ presented m ticket = presentedAt m (ticket .serial) (ticket .cell)
 
 -- settle: what the checks find decides, and they are put to a pending claim alone
 
--- a claim is examined with the words of the cells that it names; a root names one
+-- the word of a cell that a claim names
+abbrev pub wordAt : Table → ℕ → Word
+wordAt t n = wordOrZero (stateAt t n)
+
+-- the second cell of a root is not read
+abbrev pub secondWord : Table → Operation → ℕ → Word
+secondWord t operation n = cond (isRoot operation) (record { bits = 0 }) (wordAt t n)
+
+-- a claim is examined with the words of the cells that it names
 unfoldable pub found : Table → Operation → ℕ → ℕ → Word → Hints → Outcome
 found t operation first second word hints =
-    examined operation (wordOrZero (stateAt t first) .bits) (cond (isRoot operation) 0 (wordOrZero (stateAt t second) .bits)) word hints
+    examined operation (wordAt t first .bits) (secondWord t operation second .bits) word hints
 
 abbrev pub refusalOf : ℕ → Flaw → Refusal
 refusalOf cell (flaw.Width hint) = refusal.Width cell hint

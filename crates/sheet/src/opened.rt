@@ -1,15 +1,21 @@
 // An open sheet: words are put in, claims entered, settled and struck.
 ghost use mathlib.Core.Path.{_≡_};
-ghost use Rattle.sheet.specs.Calls.{modelOf, closedModelOf, opened, inputReply, inputAfter, enterReply, enterAfter, presentedAt, strikeReply, strikeAfter, readReply, closeAfter};
+ghost use Rattle.sheet.specs.Calls.{found as foundIn, modelOf, closedModelOf, opened, inputReply, inputAfter, enterReply, enterAfter, presentedAt, answerOf, settleReply, settleAfter, strikeReply, strikeAfter, readReply, closeAfter};
 use crate::cell::State;
 use crate::cell::word_in;
 use crate::closed::ClosedSheet;
 use crate::operands::allow;
+use crate::operands::first_word;
+use crate::operands::second_word;
 use crate::refusal::Refusal;
 use crate::table::Table;
 use crate::ticket::Stub;
 use crate::ticket::Ticket;
+use binary32::Operation;
 use binary32::Word;
+use checks::Flaw;
+use checks::examine;
+use hints::Hints;
 use systems::System;
 
 #[derive(Drop)]
@@ -18,6 +24,20 @@ pub struct OpenSheet<S: System> {
     serial: u32,
     weight: u64,
     table: Table,
+}
+
+// What a settled cell's holder is told of the first check that its claim failed, if any.
+fn answer(cell: u64, found: Result<(), Flaw>) -> Result<u64, Refusal>
+    ensures { λ r. ⌜ r ≡ answerOf cell found ⌝ }
+{
+    match found {
+        Ok(()) => Ok(cell),
+        Err(Flaw::Width(hint)) => Err(Refusal::Width { cell, hint }),
+        Err(Flaw::FirstEquation) => Err(Refusal::FirstEquation { cell }),
+        Err(Flaw::SecondEquation) => Err(Refusal::SecondEquation { cell }),
+        Err(Flaw::Up) => Err(Refusal::Up { cell }),
+        Err(Flaw::Word) => Err(Refusal::Word { cell }),
+    }
 }
 
 impl<S: System> OpenSheet<S> {
@@ -76,6 +96,43 @@ impl<S: System> OpenSheet<S> {
             self.table.state(stub.cell)
         } else {
             State::Free
+        }
+    }
+
+    // What the checks find in a pending claim, examined with the words of the cells that it names.
+    fn examine_claim(
+        &self,
+        operation: Operation,
+        first: u64,
+        second: u64,
+        word: Word,
+        hints: Hints,
+    ) -> Result<(), Flaw>
+        ensures { λ r. ⌜ r ≡ foundIn (now (self .entry) .table) operation first second word hints ⌝ }
+    {
+        let a = first_word(&self.table, first);
+        let b = second_word(&self.table, operation, second);
+        examine(&self.system, operation, a, b, word, hints)
+    }
+
+    // Examines a pending claim. It is accepted with its word where no check fails, and struck where one does.
+    pub fn settle(&mut self, ticket: Ticket, hints: Hints) -> Result<u64, Refusal>
+        ensures reply { λ r. ⌜ r ≡ settleReply (modelOf (now (self .entry))) ticket hints ⌝ }
+        ensures after { λ _. ⌜ modelOf (now (self .exit)) ≡ settleAfter (modelOf (now (self .entry))) ticket hints ⌝ }
+    {
+        let stub = ticket.spend();
+        match self.presented(stub) {
+            State::Pending {
+                operation,
+                first,
+                second,
+                word,
+            } => {
+                let found = self.examine_claim(operation, first, second, word, hints);
+                self.table.settle(stub.cell, word, found);
+                answer(stub.cell, found)
+            }
+            _ => Err(Refusal::BadTicket),
         }
     }
 

@@ -2,14 +2,16 @@
 ghost use Prim.Native.Nat.{_<_};
 ghost use mathlib.Core.Path.{_≡_};
 ghost use Rattle.std.specs.Vec.{made};
-ghost use Rattle.sheet.specs.Calls.{allowed};
+ghost use Rattle.sheet.specs.Calls.{allowed, wordAt, secondWord};
 ghost use Rattle.sheet.specs.Operands.{isRoot, operandChecked, operandsChecked, claimChecked};
 use crate::cell::State;
 use crate::cell::check_accepted;
 use crate::cell::check_taken;
+use crate::cell::word_or_zero;
 use crate::refusal::Refusal;
 use crate::table::Table;
 use binary32::Operation;
+use binary32::Word;
 
 pub(crate) fn is_root(operation: Operation) -> bool
     ensures { λ r. ⌜ r ≡ isRoot operation ⌝ }
@@ -57,4 +59,23 @@ pub(crate) fn allow(table: &Table, code: u32, first: u64, second: u64) -> Result
     };
     check_claim(operation, table.state(first), table.state(second))?;
     Ok(operation)
+}
+
+// The words that a claim is examined with. The cells that it names were accepted when it was entered; a cell of any other state
+// gives zero, so that nothing rests on that here.
+pub(crate) fn first_word(table: &Table, first: u64) -> Word
+    ensures { λ r. ⌜ r ≡ wordAt (now (table .entry)) first ⌝ }
+{
+    word_or_zero(table.state(first))
+}
+
+// Zero where the operation is a root, whose second cell is not read.
+pub(crate) fn second_word(table: &Table, operation: Operation, second: u64) -> Word
+    ensures { λ r. ⌜ r ≡ secondWord (now (table .entry)) operation second ⌝ }
+{
+    if is_root(operation) {
+        Word::ZERO
+    } else {
+        word_or_zero(table.state(second))
+    }
 }
