@@ -5,6 +5,8 @@ mod opened;
 mod operands;
 mod refusal;
 mod table;
+#[cfg(test)]
+mod tests;
 mod ticket;
 
 pub use cell::Cell;
