@@ -1,6 +1,7 @@
 // An open sheet: words are put in, claims entered, settled and struck.
 ghost use mathlib.Core.Path.{_≡_};
-ghost use Rattle.sheet.specs.Calls.{found as foundIn, modelOf, closedModelOf, opened, inputReply, inputAfter, enterReply, enterAfter, presentedAt, answerOf, settleReply, settleAfter, strikeReply, strikeAfter, readReply, closeAfter};
+ghost use Rattle.sheet.specs.Calls.{found as foundIn, modelOf, closedModelOf, opened, inputReply, inputAfter, enterReply, enterAfter, presentedAt, answerOf, settleReplyAt, settleAfterAt, settleReply, settleAfter, withTable, strikeReply, strikeAfter, readReply, closeAfter};
+ghost use Rattle.sheet.specs.Right.{Right};
 use crate::cell::State;
 use crate::cell::word_in;
 use crate::closed::ClosedSheet;
@@ -43,8 +44,7 @@ fn answer(cell: u64, found: Result<(), Flaw>) -> Result<u64, Refusal>
 impl<S: System> OpenSheet<S> {
     // A sheet of which no cell is taken. Tickets for it have its serial.
     pub fn new(serial: u32, weight: u64, system: S) -> Self
-        ensures model { λ r. ⌜ modelOf r ≡ opened serial weight ⌝ }
-        ensures system { λ r. ⌜ r .system ≡ system ⌝ }
+        ensures { λ r. ⌜ modelOf r ≡ opened serial weight ⌝ }
     {
         OpenSheet {
             system,
@@ -115,12 +115,10 @@ impl<S: System> OpenSheet<S> {
         examine(&self.system, operation, a, b, word, hints)
     }
 
-    // Examines a pending claim. It is accepted with its word where no check fails, and struck where one does.
-    pub fn settle(&mut self, ticket: Ticket, hints: Hints) -> Result<u64, Refusal>
-        ensures reply { λ r. ⌜ r ≡ settleReply (modelOf (now (self .entry))) ticket hints ⌝ }
-        ensures after { λ _. ⌜ modelOf (now (self .exit)) ≡ settleAfter (modelOf (now (self .entry))) ticket hints ⌝ }
+    fn settle_stub(&mut self, stub: Stub, hints: Hints) -> Result<u64, Refusal>
+        ensures reply { λ r. ⌜ r ≡ settleReplyAt (now (self .entry) .table) (stub .cell) hints (presentedAt (modelOf (now (self .entry))) (stub .serial) (stub .cell)) ⌝ }
+        ensures after { λ _. ⌜ modelOf (now (self .exit)) ≡ withTable (modelOf (now (self .entry))) (settleAfterAt (now (self .entry) .table) (stub .cell) hints (presentedAt (modelOf (now (self .entry))) (stub .serial) (stub .cell))) ⌝ }
     {
-        let stub = ticket.spend();
         match self.presented(stub) {
             State::Pending {
                 operation,
@@ -134,6 +132,16 @@ impl<S: System> OpenSheet<S> {
             }
             _ => Err(Refusal::BadTicket),
         }
+    }
+
+    // Examines a pending claim. It is accepted with its word where no check fails, and struck where one does. It is accepted just
+    // where its word and its hints are what the writer gives.
+    pub fn settle(&mut self, ticket: Ticket, hints: Hints) -> Result<u64, Refusal>
+        ensures reply { λ r. ⌜ r ≡ settleReply (modelOf (now (self .entry))) ticket hints ⌝ }
+        ensures after { λ _. ⌜ modelOf (now (self .exit)) ≡ settleAfter (modelOf (now (self .entry))) ticket hints ⌝ }
+        ensures right { λ r. ⌜ Right (modelOf (now (self .entry))) ticket hints r ⌝ }
+    {
+        self.settle_stub(ticket.spend(), hints)
     }
 
     // Gives a pending claim up.
