@@ -82,11 +82,8 @@ enterAfter m code first second word = withTable m (pendingFor (m .table) (allowe
 
 -- the state of the cell that a ticket names; one of another serial names none
 
-abbrev pub presentedAt : Model → ℕ → ℕ → State
-presentedAt m serial cell = cond (eqb serial (m .serial)) (stateAt (m .table) cell) Free
-
 abbrev pub presented : Model → Ticket → State
-presented m ticket = presentedAt m (ticket .serial) (ticket .cell)
+presented m ticket = cond (eqb (ticket .serial) (m .serial)) (stateAt (m .table) (ticket .cell)) Free
 
 -- settle: what the checks find decides, and they are put to a pending claim alone
 

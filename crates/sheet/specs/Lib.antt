@@ -4,3 +4,4 @@ pub mod Operands
 pub mod Refusals
 pub mod Right
 pub mod Tables
+pub mod Tickets

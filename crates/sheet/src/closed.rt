@@ -1,6 +1,7 @@
 // A closed sheet: its cells are read, and nothing alters it.
 ghost use mathlib.Core.Path.{_≡_};
 ghost use Rattle.sheet.specs.Calls.{closedModelOf, readReply};
+ghost use Rattle.sheet.specs.Tickets.{ticketOf};
 use crate::cell::word_in;
 use crate::refusal::Refusal;
 use crate::table::Table;
@@ -27,8 +28,7 @@ impl<S: System> ClosedSheet<S> {
 
     // Takes back any ticket, and says what it named.
     pub fn hand_in(&self, ticket: Ticket) -> Stub
-        ensures serial { λ r. ⌜ r .serial ≡ ticket .serial ⌝ }
-        ensures cell { λ r. ⌜ r .cell ≡ ticket .cell ⌝ }
+        ensures { λ r. ⌜ ticketOf r ≡ ticket ⌝ }
     {
         ticket.spend()
     }

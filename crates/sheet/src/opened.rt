@@ -1,7 +1,8 @@
 // An open sheet: words are put in, claims entered, settled and struck.
 ghost use mathlib.Core.Path.{_≡_};
-ghost use Rattle.sheet.specs.Calls.{found as foundIn, modelOf, closedModelOf, opened, inputReply, inputAfter, enterReply, enterAfter, presentedAt, answerOf, settleReplyAt, settleAfterAt, settleReply, settleAfter, withTable, strikeReply, strikeAfter, readReply, closeAfter};
+ghost use Rattle.sheet.specs.Calls.{found as foundIn, modelOf, closedModelOf, opened, inputReply, inputAfter, enterReply, enterAfter, presented, answerOf, settleReply, settleAfter, strikeReply, strikeAfter, readReply, closeAfter};
 ghost use Rattle.sheet.specs.Right.{Right};
+ghost use Rattle.sheet.specs.Tickets.{ticketOf};
 use crate::cell::State;
 use crate::cell::word_in;
 use crate::closed::ClosedSheet;
@@ -90,7 +91,7 @@ impl<S: System> OpenSheet<S> {
 
     // The state of the cell that a ticket names.
     fn presented(&self, stub: Stub) -> State
-        ensures { λ r. ⌜ r ≡ presentedAt (modelOf (now (self .entry))) (stub .serial) (stub .cell) ⌝ }
+        ensures { λ r. ⌜ r ≡ presented (modelOf (now (self .entry))) (ticketOf stub) ⌝ }
     {
         if stub.serial == self.serial {
             self.table.state(stub.cell)
@@ -116,8 +117,8 @@ impl<S: System> OpenSheet<S> {
     }
 
     fn settle_stub(&mut self, stub: Stub, hints: Hints) -> Result<u64, Refusal>
-        ensures reply { λ r. ⌜ r ≡ settleReplyAt (now (self .entry) .table) (stub .cell) hints (presentedAt (modelOf (now (self .entry))) (stub .serial) (stub .cell)) ⌝ }
-        ensures after { λ _. ⌜ modelOf (now (self .exit)) ≡ withTable (modelOf (now (self .entry))) (settleAfterAt (now (self .entry) .table) (stub .cell) hints (presentedAt (modelOf (now (self .entry))) (stub .serial) (stub .cell))) ⌝ }
+        ensures reply { λ r. ⌜ r ≡ settleReply (modelOf (now (self .entry))) (ticketOf stub) hints ⌝ }
+        ensures after { λ _. ⌜ modelOf (now (self .exit)) ≡ settleAfter (modelOf (now (self .entry))) (ticketOf stub) hints ⌝ }
     {
         match self.presented(stub) {
             State::Pending {

@@ -1,5 +1,6 @@
 // Tickets, which a pending cell is settled or struck with.
 ghost use mathlib.Core.Path.{_≡_};
+ghost use Rattle.sheet.specs.Tickets.{ticketOf};
 
 // The serial of a sheet and the number of a cell. It is no `Drop` and cannot be copied: it is spent by settling, by
 // striking or by handing it in. Any two numbers make one, since a sheet has to answer whatever is presented.
@@ -24,8 +25,7 @@ impl Ticket {
     }
 
     pub(crate) fn spend(self) -> Stub
-        ensures serial { λ r. ⌜ r .serial ≡ self .serial ⌝ }
-        ensures cell { λ r. ⌜ r .cell ≡ self .cell ⌝ }
+        ensures { λ r. ⌜ ticketOf r ≡ self ⌝ }
     {
         let Ticket { serial, cell } = self;
         Stub { serial, cell }
