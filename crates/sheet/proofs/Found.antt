@@ -9,8 +9,11 @@ use Rattle.binary32.specs.declared.word.Word.{Word}
 use Rattle.checks.proofs.Settled.{examined-sound}
 use Rattle.checks.specs.Examined.{Outcome, Sound, examined}
 use Rattle.hints.specs.declared.writer.Hints.{Hints}
-use Rattle.sheet.specs.Calls.{Model, answerOf, found, presented, secondWord, settleReply, settleReplyAt, wordAt}
-use Rattle.sheet.specs.Right.{Right, RightAt}
+use Rattle.sheet.specs.Calls.{Model, answerOf, found, presented, secondWord, settleAfter, settleAfterAt, settleReply, settleReplyAt, withTable, wordAt}
+use Rattle.sheet.specs.Right.{Refused, Right, RightAt}
+use Rattle.sheet.specs.Cells.{settledState}
+use Rattle.sheet.specs.Tables.{withState}
+use Rattle.checks.specs.declared.flaw.Flaw.the-variants as flaw
 use Rattle.sheet.specs.declared.cell.State.{State}
 use Rattle.sheet.specs.declared.cell.State.the-variants.{Free, Input, Pending, Accepted, Struck}
 use Rattle.sheet.specs.declared.refusal.Refusal.{Refusal}
@@ -52,3 +55,26 @@ pub right-reply : (m : Model) (ticket : Ticket) (hints : Hints) (r : Result ℕ 
     r ≡ settleReply m ticket hints → Right m ticket hints r
 right-reply m ticket hints r is =
     subst (λ (x : Result ℕ Refusal). Right m ticket hints x) (sym is) (right-at (m .table) (ticket .cell) hints (presented m ticket))
+
+struck-by : (m : Model) (ticket : Ticket) (word : Word) (o : Outcome) →
+    Refused m ticket (answerOf (ticket .cell) o) (withTable m (withState (m .table) (ticket .cell) (settledState word o)))
+struck-by m ticket word (Ok u) = tt
+struck-by m ticket word (Err (flaw.Width hint)) = refl
+struck-by m ticket word (Err flaw.FirstEquation) = refl
+struck-by m ticket word (Err flaw.SecondEquation) = refl
+struck-by m ticket word (Err flaw.Up) = refl
+struck-by m ticket word (Err flaw.Word) = refl
+
+refused-at : (m : Model) (ticket : Ticket) (hints : Hints) (s : State) →
+    Refused m ticket (settleReplyAt (m .table) (ticket .cell) hints s) (withTable m (settleAfterAt (m .table) (ticket .cell) hints s))
+refused-at m ticket hints Free = refl
+refused-at m ticket hints (Input word) = refl
+refused-at m ticket hints (Pending operation first second word) = struck-by m ticket word (found (m .table) operation first second word hints)
+refused-at m ticket hints (Accepted word) = refl
+refused-at m ticket hints Struck = refl
+
+pub refused-reply : (m after : Model) (ticket : Ticket) (hints : Hints) (r : Result ℕ Refusal) →
+    r ≡ settleReply m ticket hints → after ≡ settleAfter m ticket hints → Refused m ticket r after
+refused-reply m after ticket hints r is is-after =
+    subst (λ (x : Result ℕ Refusal). Refused m ticket x after) (sym is)
+    (subst (λ (n : Model). Refused m ticket (settleReply m ticket hints) n) (sym is-after) (refused-at m ticket hints (presented m ticket)))

@@ -1,7 +1,7 @@
 // An open sheet: words are put in, claims entered, settled and struck.
 ghost use mathlib.Core.Path.{_≡_};
 ghost use Rattle.sheet.specs.Calls.{found as foundIn, modelOf, closedModelOf, opened, inputReply, inputAfter, enterReply, enterAfter, presented, answerOf, settleReply, settleAfter, strikeReply, strikeAfter, readReply, closeAfter};
-ghost use Rattle.sheet.specs.Right.{Right};
+ghost use Rattle.sheet.specs.Right.{Refused, Right};
 ghost use Rattle.sheet.specs.Tickets.{ticketOf};
 use crate::cell::State;
 use crate::cell::word_in;
@@ -141,6 +141,7 @@ impl<S: System> OpenSheet<S> {
         ensures reply { λ r. ⌜ r ≡ settleReply (modelOf (now (self .entry))) ticket hints ⌝ }
         ensures after { λ _. ⌜ modelOf (now (self .exit)) ≡ settleAfter (modelOf (now (self .entry))) ticket hints ⌝ }
         ensures right { λ r. ⌜ Right (modelOf (now (self .entry))) ticket hints r ⌝ }
+        ensures refused { λ r. ⌜ Refused (modelOf (now (self .entry))) ticket r (modelOf (now (self .exit))) ⌝ }
     {
         self.settle_stub(ticket.spend(), hints)
     }
