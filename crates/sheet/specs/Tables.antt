@@ -1,0 +1,37 @@
+-- The table of a sheet: its cells in order, and how many of them are taken.
+use Prim.Native.Nat.{ℕ, _+_}
+use mathlib.Core.Bool.{Bool, cond}
+use mathlib.Core.List.{List, map}
+use lib.Dec.{ltb}
+use lib.ListN.{getD, set, replicate}
+use Rattle.std.specs.declared.result.Result.{Result}
+use Rattle.std.specs.declared.result.Result.the-variants.{Ok, Err}
+use Rattle.sheet.specs.Cells.{cellOf, closedCell}
+use Rattle.sheet.specs.declared.cell.Cell.{Cell}
+use Rattle.sheet.specs.declared.cell.State.{State}
+use Rattle.sheet.specs.declared.cell.State.the-variants.{Free}
+use Rattle.sheet.specs.declared.refusal.Refusal.{Refusal}
+use Rattle.sheet.specs.declared.refusal.Refusal.the-variants as refusal
+use Rattle.sheet.specs.declared.table.Table.{Table}
+
+-- 256 cells, and none of them taken
+abbrev pub emptyTable : Table
+emptyTable = record { cells = replicate 256 (cellOf Free); taken = 0 }
+
+-- the state of the cell with this number; from 256 on a number is that of no taken cell
+abbrev pub stateAt : Table → ℕ → State
+stateAt t n = cond (ltb n 256) (getD (t .cells) n (cellOf Free) .state) Free
+
+abbrev pub withState : Table → ℕ → State → Table
+withState t n s = record { cells = set (t .cells) n (cellOf s); taken = t .taken }
+
+-- a cell is left to take
+abbrev pub hasRoom : Table → Bool
+hasRoom t = ltb (t .taken) 256
+
+-- the next cell, taken with this state
+abbrev pub grown : Table → State → Table
+grown t s = record { cells = set (t .cells) (t .taken) (cellOf s); taken = t .taken + 1 }
+
+abbrev pub closedTable : Table → Table
+closedTable t = record { cells = map closedCell (t .cells); taken = t .taken }
