@@ -18,8 +18,8 @@ const PRINTED: u64 = 20;
 fn report(rt: &LibcRuntime, number: u64, verdict: Verdict, counts: &Counts) -> io::Result<()> {
     let so_far = match verdict {
         Verdict::Agrees(_) => return Ok(()),
-        Verdict::Differs { .. } => counts.all_differing(),
-        Verdict::NoVector => counts.unread(),
+        Verdict::Differs { .. } => counts.all_differing,
+        Verdict::NoVector => counts.unread,
     };
     if so_far <= PRINTED {
         println!(rt, "line {number}: {verdict}")
@@ -37,8 +37,8 @@ fn report_more(rt: &LibcRuntime, count: u64, what: &str) -> io::Result<()> {
 }
 
 fn summary(rt: &LibcRuntime, counts: &Counts) -> io::Result<()> {
-    report_more(rt, counts.all_differing(), "differ")?;
-    report_more(rt, counts.unread(), "are no vector")?;
+    report_more(rt, counts.all_differing, "differ")?;
+    report_more(rt, counts.unread, "are no vector")?;
     for code in 1..9 {
         if let Some(operation) = Operation::from_code(code) {
             let name = name_of(operation);
@@ -47,9 +47,9 @@ fn summary(rt: &LibcRuntime, counts: &Counts) -> io::Result<()> {
             println!(rt, "{name}: {agree} agree, {differ} differ")?;
         }
     }
-    let agree = counts.all_agreeing();
-    let differ = counts.all_differing();
-    let unread = counts.unread();
+    let agree = counts.all_agreeing;
+    let differ = counts.all_differing;
+    let unread = counts.unread;
     println!(
         rt,
         "total: {agree} agree, {differ} differ, {unread} no vector"

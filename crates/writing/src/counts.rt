@@ -12,12 +12,13 @@ pub struct Counts {
     agreeing: [u64; 8],
     differing: [u64; 8],
     // Those of all operations.
-    all_agreeing: u64,
-    all_differing: u64,
+    pub all_agreeing: u64,
+    pub all_differing: u64,
     // Lines that are no vector.
-    unread: u64,
+    pub unread: u64,
 }
 
+// The place of an operation in an array, from 0.
 fn place(operation: Operation) -> usize
     ensures value { λ r. ⌜ r ≡ placeOf operation ⌝ }
     ensures bound { λ r. ⌜ r < 8 ⌝ }
@@ -73,35 +74,17 @@ impl Counts {
         }
     }
 
+    // How many vectors of the operation agree.
     pub fn agreeing(&self, operation: Operation) -> u64
         ensures { λ r. ⌜ r ≡ getD (now (self .entry) .agreeing) (placeOf operation) 0 ⌝ }
     {
         self.agreeing[place(operation)]
     }
 
+    // How many vectors of the operation differ.
     pub fn differing(&self, operation: Operation) -> u64
         ensures { λ r. ⌜ r ≡ getD (now (self .entry) .differing) (placeOf operation) 0 ⌝ }
     {
         self.differing[place(operation)]
-    }
-
-    // How many vectors agree, of whatever operation.
-    pub fn all_agreeing(&self) -> u64
-        ensures { λ r. ⌜ r ≡ now (self .entry) .«all_agreeing» ⌝ }
-    {
-        self.all_agreeing
-    }
-
-    pub fn all_differing(&self) -> u64
-        ensures { λ r. ⌜ r ≡ now (self .entry) .«all_differing» ⌝ }
-    {
-        self.all_differing
-    }
-
-    // How many lines were no vector.
-    pub fn unread(&self) -> u64
-        ensures { λ r. ⌜ r ≡ now (self .entry) .unread ⌝ }
-    {
-        self.unread
     }
 }
