@@ -59,8 +59,8 @@ pub(crate) fn cut(number: u64, k: u32) -> (u64, u64)
 pub(crate) fn lifted(main: u64) -> (u32, u64)
     requires { ⌜ 0 < main ⌝ ∗ ⌜ main < 2 ^ 51 ⌝ }
     ensures value { λ r. ⌜ r ≡ (liftOf main, main * 2 ^ liftOf main) ⌝ }
-    ensures low_bound { λ r. ⌜ r .0 ≤ 50 ⌝ }
-    ensures high_bound { λ r. ⌜ r .1 < 2 ^ 51 ⌝ }
+    ensures lift_bound { λ r. ⌜ r .0 ≤ 50 ⌝ }
+    ensures bound { λ r. ⌜ r .1 < 2 ^ 51 ⌝ }
 {
     let lift = main.leading_zeros() - 13;
     (lift, main << lift)

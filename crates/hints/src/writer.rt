@@ -3,9 +3,8 @@ ghost use mathlib.Core.Path.{_≡_};
 ghost use Prim.Native.Nat.{_+_, _-_, _*_, _^_, _<_, _≤_};
 ghost use Rattle.binary32.specs.Operations.{operationOf};
 ghost use Rattle.binary32.specs.Steps.{stepOf};
-ghost use Rattle.hints.specs.Backs.{Backs};
 ghost use Rattle.hints.specs.Settings.{Fit};
-ghost use Rattle.hints.specs.Scheme.{principalOf, exponentOf, cutOf, liftOf, magnitudeFrom};
+ghost use Rattle.hints.specs.Scheme.{principalOf};
 ghost use Rattle.hints.specs.Writer.{fromPrincipal, roundedWith, writtenStep, written, Right, RightReply};
 ghost use Rattle.hints.specs.Worked.{Worked};
 ghost use Rattle.rounding.specs.Laws.{Rounding};
@@ -98,8 +97,7 @@ fn filled_from(negative: bool, scale: u32, main: u64, rest: u64) -> Written
 
 fn rounded(setting: Setting) -> Written
     requires { ⌜ Fit setting ⌝ }
-    ensures value { λ r. ⌜ r ≡ roundedWith setting ⌝ }
-    ensures backed { λ r. ⌜ Backs setting r ⌝ }
+    ensures { λ r. ⌜ r ≡ roundedWith setting ⌝ }
 {
     let (main, rest) = principal(setting);
     filled_from(setting.negative, setting.scale, main, rest)

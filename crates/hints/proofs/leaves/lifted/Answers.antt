@@ -19,6 +19,6 @@ returns c =
     let few = lift-at-most main (c .pre .0) (c .pre .1) in
     record {
       value = rw (zeros, whole);
-      low-bound = rw zeros few;
-      high-bound = rw (zeros, whole) kept;
+      lift-bound = rw zeros few;
+      bound = rw (zeros, whole) kept;
     }

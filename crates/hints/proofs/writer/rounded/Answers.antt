@@ -3,9 +3,6 @@ use Prim.Native.Nat.{_<_, _≤_, _^_}
 use native.Mathlib.Omega.{arith}
 use lib.Pow.{pow-mono}
 use Rattle.hints.specs.Scheme.{mainWidth}
-use Rattle.hints.specs.Writer.{roundedWith}
-use Rattle.hints.proofs.Backed.{rounded-backs}
-use borrow.Author.Needs.{needs}
 use Rattle.hints.proofs.Principals.{main-within, width-at-most}
 use Rattle.hints.proofs.writer.rounded.Needs as need
 
@@ -17,8 +14,3 @@ filled-from-requires c κs =
     let within = main-within (σ .kind) (σ .first) (σ .second) (σ .shift) (fit .low) (fit .high) (fit .second-high) (fit .suits) in
     let room = pow-mono {i = mainWidth (σ .kind)} {j = 51} (width-at-most (σ .kind)) in
     rw (c .principal-main .ensures) (within .some, omega (arith, within .width))
-
-pub returns : need.returns
-returns c =
-    let is : c .filled-from .result ≡ roundedWith (c .args .setting) = search needs in
-    record { value = is; backed = rw is (rounded-backs (c .args .setting) (c .pre)) }

@@ -26,6 +26,6 @@ returns-in-Direct c =
 
 pub returns-in-Rounded : need.returns-in-Rounded
 returns-in-Rounded c =
-    let is : c .rounded .result ≡ roundedWith _ = c .rounded .ensures .value ∙ ap roundedWith (c .of .ensures) in
+    let is : c .rounded .result ≡ roundedWith _ = c .rounded .ensures ∙ ap roundedWith (c .of .ensures) in
     let known = facts (c .args .operation) (c .args .a .bits) (c .args .b .bits) _ _ (c .pre ∙ c .in-Rounded .is) is in
     record { value = known .value; right = known .right; rounding = rounding; worked = worked }
