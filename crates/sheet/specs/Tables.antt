@@ -1,17 +1,12 @@
 -- The table of a sheet: its cells in order, and how many of them are taken.
 use Prim.Native.Nat.{ℕ, _+_}
 use mathlib.Core.Bool.{Bool, cond}
-use mathlib.Core.List.{List, map}
+use mathlib.Core.List.{map}
 use lib.Dec.{ltb}
 use lib.ListN.{getD, set, replicate}
-use Rattle.std.specs.declared.result.Result.{Result}
-use Rattle.std.specs.declared.result.Result.the-variants.{Ok, Err}
 use Rattle.sheet.specs.Cells.{cellOf, closedCell}
-use Rattle.sheet.specs.declared.cell.Cell.{Cell}
 use Rattle.sheet.specs.declared.cell.State.{State}
 use Rattle.sheet.specs.declared.cell.State.the-variants.{Free}
-use Rattle.sheet.specs.declared.refusal.Refusal.{Refusal}
-use Rattle.sheet.specs.declared.refusal.Refusal.the-variants as refusal
 use Rattle.sheet.specs.declared.table.Table.{Table}
 
 -- 256 cells, and none of them taken

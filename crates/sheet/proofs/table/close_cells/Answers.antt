@@ -2,7 +2,7 @@ use Prim.Native.Nat.{_<_}
 use lib.ListN.{length, getD, set, drop}
 use lib.Seq.{take-all}
 use mathlib.Core.List.{_++_, map, append-nil}
-use mathlib.Core.Path.{_≡_, refl, sym, ap, _∙_}
+use mathlib.Core.Path.{_≡_, ap, _∙_}
 use native.Mathlib.Omega.{arith}
 use Rattle.std.proofs.shelf.Edits.{map-over-more}
 use Rattle.std.proofs.shelf.Lists.{getD-default, drop-all}
