@@ -45,8 +45,8 @@ wordIn (Pending operation first second word) = Err (refusal.NotAccepted 1)
 wordIn (Accepted word) = Ok word
 wordIn Struck = Err (refusal.NotAccepted 1)
 
--- the word of a cell that a claim names; such a cell was accepted when the claim was entered, so that the zero of the other
--- states is never met
+-- the word of a cell that a claim names; such a cell was accepted when the claim was entered, and any other state gives zero, so
+-- that settling rests on nothing that has to last
 abbrev pub wordOrZero : State → Word
 wordOrZero Free = record { bits = 0 }
 wordOrZero (Input word) = word

@@ -4,6 +4,7 @@ ghost use mathlib.Core.Path.{_≡_};
 ghost use Rattle.std.specs.Vec.{made};
 ghost use Rattle.sheet.specs.Calls.{allowed, wordAt, secondWord};
 ghost use Rattle.sheet.specs.Operands.{isRoot, operandChecked, operandsChecked, claimChecked};
+ghost use Rattle.sheet.specs.Tables.{stateAt};
 use crate::cell::State;
 use crate::cell::check_accepted;
 use crate::cell::check_taken;
@@ -35,14 +36,14 @@ fn check_operands(first: State, second: State) -> Result<(), Refusal>
     check_accepted(second, 2)
 }
 
-// A root has one operand: what its second cell is does not matter.
-pub(crate) fn check_claim(operation: Operation, first: State, second: State) -> Result<(), Refusal>
-    ensures { λ r. ⌜ r ≡ claimChecked operation first second ⌝ }
+// A root has one operand: its second cell is not looked up.
+fn check_claim(table: &Table, operation: Operation, first: u64, second: u64) -> Result<(), Refusal>
+    ensures { λ r. ⌜ r ≡ claimChecked operation (stateAt (now (table .entry)) first) (stateAt (now (table .entry)) second) ⌝ }
 {
     if is_root(operation) {
-        check_operand(first)
+        check_operand(table.state(first))
     } else {
-        check_operands(first, second)
+        check_operands(table.state(first), table.state(second))
     }
 }
 
@@ -57,7 +58,7 @@ pub(crate) fn allow(table: &Table, code: u32, first: u64, second: u64) -> Result
     let Some(operation) = Operation::from_code(code) else {
         return Err(Refusal::UnknownCode);
     };
-    check_claim(operation, table.state(first), table.state(second))?;
+    check_claim(table, operation, first, second)?;
     Ok(operation)
 }
 
