@@ -15,7 +15,7 @@ use Rattle.checks.specs.declared.flaw.Flaw.the-variants as flaw
 use Rattle.hints.specs.declared.writer.Hints.{Hints}
 use Rattle.sheet.specs.Cells.{Checked, wordIn, wordOrZero, settledState}
 use Rattle.sheet.specs.Operands.{isRoot, claimChecked}
-use Rattle.sheet.specs.Tables.{emptyTable, stateAt, withState, hasRoom, grown, closedTable}
+use Rattle.sheet.specs.Tables.{Standing, emptyTable, stateAt, standingOf, withState, hasRoom, grown, closedTable}
 use Rattle.sheet.specs.declared.cell.State.{State}
 use Rattle.sheet.specs.declared.cell.State.the-variants.{Free, Input, Pending, Accepted, Struck}
 use Rattle.sheet.specs.declared.closed.ClosedSheet.{ClosedSheet}
@@ -37,6 +37,9 @@ modelOf sheet = record { serial = sheet .serial; weight = sheet .weight; table =
 abbrev pub closedModelOf : {S E : Type 0} → ClosedSheet S E → Model
 closedModelOf sheet = record { serial = sheet .serial; weight = sheet .weight; table = sheet .table }
 
+abbrev pub cellsOf : Model → Standing
+cellsOf m = standingOf (m .table)
+
 abbrev pub withTable : Model → Table → Model
 withTable m t = record { serial = m .serial; weight = m .weight; table = t }
 
@@ -47,11 +50,11 @@ opened serial weight = record { serial = serial; weight = weight; table = emptyT
 
 -- input: the next cell, if there is one
 
-abbrev pub inputReply : Model → Result ℕ Refusal
-inputReply m = cond (hasRoom (m .table)) (Ok (m .table .taken)) (Err refusal.Full)
+abbrev pub inputReply : Standing → Result ℕ Refusal
+inputReply s = cond (hasRoom s) (Ok (s .taken)) (Err refusal.Full)
 
 abbrev pub inputAfter : Model → Word → Model
-inputAfter m word = withTable m (cond (hasRoom (m .table)) (grown (m .table) (Input word)) (m .table))
+inputAfter m word = withTable m (cond (hasRoom (cellsOf m)) (grown (m .table) (Input word)) (m .table))
 
 -- enter: that there is room, then the code, then the operand cells
 
@@ -59,46 +62,46 @@ abbrev pub allowedIf : Checked → Operation → Result Operation Refusal
 allowedIf (Ok _) operation = Ok operation
 allowedIf (Err found) operation = Err found
 
-abbrev pub allowedFor : Table → Option Operation → ℕ → ℕ → Result Operation Refusal
-allowedFor t None first second = Err refusal.UnknownCode
-allowedFor t (Some operation) first second = allowedIf (claimChecked operation (stateAt t first) (stateAt t second)) operation
+abbrev pub allowedFor : Standing → Option Operation → ℕ → ℕ → Result Operation Refusal
+allowedFor s None first second = Err refusal.UnknownCode
+allowedFor s (Some operation) first second = allowedIf (claimChecked operation (s .state first) (s .state second)) operation
 
-abbrev pub allowed : Table → ℕ → ℕ → ℕ → Result Operation Refusal
-allowed t code first second = cond (hasRoom t) (allowedFor t (operationOf code) first second) (Err refusal.Full)
+abbrev pub allowed : Standing → ℕ → ℕ → ℕ → Result Operation Refusal
+allowed s code first second = cond (hasRoom s) (allowedFor s (operationOf code) first second) (Err refusal.Full)
 
-abbrev pub ticketFor : Model → Result Operation Refusal → Result Ticket Refusal
-ticketFor m (Ok operation) = Ok (record { serial = m .serial; cell = m .table .taken })
-ticketFor m (Err found) = Err found
+abbrev pub ticketFor : ℕ → ℕ → Result Operation Refusal → Result Ticket Refusal
+ticketFor serial cell (Ok operation) = Ok (record { serial = serial; cell = cell })
+ticketFor serial cell (Err found) = Err found
 
 abbrev pub pendingFor : Table → Result Operation Refusal → ℕ → ℕ → Word → Table
 pendingFor t (Ok operation) first second word = grown t (Pending operation first second word)
 pendingFor t (Err found) first second word = t
 
-abbrev pub enterReply : Model → ℕ → ℕ → ℕ → Result Ticket Refusal
-enterReply m code first second = ticketFor m (allowed (m .table) code first second)
+abbrev pub enterReply : ℕ → Standing → ℕ → ℕ → ℕ → Result Ticket Refusal
+enterReply serial s code first second = ticketFor serial (s .taken) (allowed s code first second)
 
 abbrev pub enterAfter : Model → ℕ → ℕ → ℕ → Word → Model
-enterAfter m code first second word = withTable m (pendingFor (m .table) (allowed (m .table) code first second) first second word)
+enterAfter m code first second word = withTable m (pendingFor (m .table) (allowed (cellsOf m) code first second) first second word)
 
--- the state of the cell that a ticket names; one of another serial names none
+-- the state of the cell that a ticket names; one of another serial than the sheet's names none
 
-abbrev pub presented : Model → Ticket → State
-presented m ticket = cond (eqb (ticket .serial) (m .serial)) (stateAt (m .table) (ticket .cell)) Free
+abbrev pub presented : ℕ → Standing → Ticket → State
+presented serial s ticket = cond (eqb (ticket .serial) serial) (s .state (ticket .cell)) Free
 
 -- settle: what the checks find decides, and they are put to a pending claim alone
 
 -- the word of a cell that a claim names
-abbrev pub wordAt : Table → ℕ → Word
-wordAt t n = wordOrZero (stateAt t n)
+abbrev pub wordAt : Standing → ℕ → Word
+wordAt s n = wordOrZero (s .state n)
 
 -- the second cell of a root is not read
-abbrev pub secondWord : Table → Operation → ℕ → Word
-secondWord t operation n = cond (isRoot operation) (record { bits = 0 }) (wordAt t n)
+abbrev pub secondWord : Standing → Operation → ℕ → Word
+secondWord s operation n = cond (isRoot operation) (record { bits = 0 }) (wordAt s n)
 
 -- a claim is examined with the words of the cells that it names
-unfoldable pub found : Table → Operation → ℕ → ℕ → Word → Hints → Outcome
-found t operation first second word hints =
-    examined operation (wordAt t first .bits) (secondWord t operation second .bits) word hints
+unfoldable pub found : Standing → Operation → ℕ → ℕ → Word → Hints → Outcome
+found s operation first second word hints =
+    examined operation (wordAt s first .bits) (secondWord s operation second .bits) word hints
 
 abbrev pub refusalOf : ℕ → Flaw → Refusal
 refusalOf cell (flaw.Width hint) = refusal.Width cell hint
@@ -111,26 +114,26 @@ abbrev pub answerOf : ℕ → Outcome → Result ℕ Refusal
 answerOf cell (Ok _) = Ok cell
 answerOf cell (Err found) = Err (refusalOf cell found)
 
-abbrev pub settleReplyAt : Table → ℕ → Hints → State → Result ℕ Refusal
-settleReplyAt t cell hints Free = Err refusal.BadTicket
-settleReplyAt t cell hints (Input word) = Err refusal.BadTicket
-settleReplyAt t cell hints (Pending operation first second word) = answerOf cell (found t operation first second word hints)
-settleReplyAt t cell hints (Accepted word) = Err refusal.BadTicket
-settleReplyAt t cell hints Struck = Err refusal.BadTicket
+abbrev pub settleReplyAt : Standing → ℕ → Hints → State → Result ℕ Refusal
+settleReplyAt s cell hints Free = Err refusal.BadTicket
+settleReplyAt s cell hints (Input word) = Err refusal.BadTicket
+settleReplyAt s cell hints (Pending operation first second word) = answerOf cell (found s operation first second word hints)
+settleReplyAt s cell hints (Accepted word) = Err refusal.BadTicket
+settleReplyAt s cell hints Struck = Err refusal.BadTicket
 
 abbrev pub settleAfterAt : Table → ℕ → Hints → State → Table
 settleAfterAt t cell hints Free = t
 settleAfterAt t cell hints (Input word) = t
 settleAfterAt t cell hints (Pending operation first second word) =
-    withState t cell (settledState word (found t operation first second word hints))
+    withState t cell (settledState word (found (standingOf t) operation first second word hints))
 settleAfterAt t cell hints (Accepted word) = t
 settleAfterAt t cell hints Struck = t
 
-abbrev pub settleReply : Model → Ticket → Hints → Result ℕ Refusal
-settleReply m ticket hints = settleReplyAt (m .table) (ticket .cell) hints (presented m ticket)
+abbrev pub settleReply : ℕ → Standing → Ticket → Hints → Result ℕ Refusal
+settleReply serial s ticket hints = settleReplyAt s (ticket .cell) hints (presented serial s ticket)
 
 abbrev pub settleAfter : Model → Ticket → Hints → Model
-settleAfter m ticket hints = withTable m (settleAfterAt (m .table) (ticket .cell) hints (presented m ticket))
+settleAfter m ticket hints = withTable m (settleAfterAt (m .table) (ticket .cell) hints (presented (m .serial) (cellsOf m) ticket))
 
 -- strike: the cell of a pending claim
 
@@ -148,16 +151,16 @@ strikeAfterAt t cell (Pending operation first second word) = withState t cell St
 strikeAfterAt t cell (Accepted word) = t
 strikeAfterAt t cell Struck = t
 
-abbrev pub strikeReply : Model → Ticket → Result ℕ Refusal
-strikeReply m ticket = strikeReplyAt (ticket .cell) (presented m ticket)
+abbrev pub strikeReply : ℕ → Standing → Ticket → Result ℕ Refusal
+strikeReply serial s ticket = strikeReplyAt (ticket .cell) (presented serial s ticket)
 
 abbrev pub strikeAfter : Model → Ticket → Model
-strikeAfter m ticket = withTable m (strikeAfterAt (m .table) (ticket .cell) (presented m ticket))
+strikeAfter m ticket = withTable m (strikeAfterAt (m .table) (ticket .cell) (presented (m .serial) (cellsOf m) ticket))
 
 -- read: the word of an accepted cell
 
-abbrev pub readReply : Model → ℕ → Result Word Refusal
-readReply m cell = wordIn (stateAt (m .table) cell)
+abbrev pub readReply : Standing → ℕ → Result Word Refusal
+readReply s cell = wordIn (s .state cell)
 
 -- close: what is pending is struck
 

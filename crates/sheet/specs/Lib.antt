@@ -1,5 +1,6 @@
 pub mod Calls
 pub mod Cells
+pub mod Closing
 pub mod Operands
 pub mod Refusals
 pub mod Right

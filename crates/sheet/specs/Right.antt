@@ -8,28 +8,27 @@ use Rattle.std.specs.declared.result.Result.the-variants.{Ok, Err}
 use Rattle.checks.specs.Examined.{claimOf}
 use Rattle.hints.specs.Writer.{writtenStep}
 use Rattle.hints.specs.declared.writer.Hints.{Hints}
-use Rattle.sheet.specs.Calls.{Model, presented, wordAt, secondWord, withTable}
+use Rattle.sheet.specs.Calls.{Model, cellsOf, presented, wordAt, secondWord, withTable}
 use Rattle.sheet.specs.Refusals.{numberOf}
-use Rattle.sheet.specs.Tables.{withState}
+use Rattle.sheet.specs.Tables.{Standing, withState}
 use Rattle.sheet.specs.declared.cell.State.{State}
 use Rattle.sheet.specs.declared.cell.State.the-variants.{Free, Input, Pending, Accepted, Struck}
 use Rattle.sheet.specs.declared.refusal.Refusal.{Refusal}
-use Rattle.sheet.specs.declared.table.Table.{Table}
 use Rattle.sheet.specs.declared.ticket.Ticket.{Ticket}
 
 -- a pending claim is accepted just where its word and its hints are what the writer gives for the words of its cells, and
 -- nothing else is accepted
-abbrev pub RightAt : Table → ℕ → Hints → State → Result ℕ Refusal → Type 0
-RightAt t cell hints Free reply = reply ≡ Ok cell → ⊥
-RightAt t cell hints (Input word) reply = reply ≡ Ok cell → ⊥
-RightAt t cell hints (Pending operation first second word) reply =
-    (reply ≡ Ok cell → claimOf word hints ≡ writtenStep operation (wordAt t first .bits) (secondWord t operation second .bits))
-    × (claimOf word hints ≡ writtenStep operation (wordAt t first .bits) (secondWord t operation second .bits) → reply ≡ Ok cell)
-RightAt t cell hints (Accepted word) reply = reply ≡ Ok cell → ⊥
-RightAt t cell hints Struck reply = reply ≡ Ok cell → ⊥
+abbrev pub RightAt : Standing → ℕ → Hints → State → Result ℕ Refusal → Type 0
+RightAt s cell hints Free reply = reply ≡ Ok cell → ⊥
+RightAt s cell hints (Input word) reply = reply ≡ Ok cell → ⊥
+RightAt s cell hints (Pending operation first second word) reply =
+    (reply ≡ Ok cell → claimOf word hints ≡ writtenStep operation (wordAt s first .bits) (secondWord s operation second .bits))
+    × (claimOf word hints ≡ writtenStep operation (wordAt s first .bits) (secondWord s operation second .bits) → reply ≡ Ok cell)
+RightAt s cell hints (Accepted word) reply = reply ≡ Ok cell → ⊥
+RightAt s cell hints Struck reply = reply ≡ Ok cell → ⊥
 
 abbrev pub Right : Model → Ticket → Hints → Result ℕ Refusal → Type 0
-Right m ticket hints reply = RightAt (m .table) (ticket .cell) hints (presented m ticket) reply
+Right m ticket hints reply = RightAt (cellsOf m) (ticket .cell) hints (presented (m .serial) (cellsOf m) ticket) reply
 
 -- a refusal with a number below 6 leaves the sheet as it was, one from 6 on strikes the cell
 abbrev pub Refused : Model → Ticket → Result ℕ Refusal → Model → Type 0

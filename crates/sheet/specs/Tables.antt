@@ -20,9 +20,17 @@ stateAt t n = cond (ltb n 256) (getD (t .cells) n (cellOf Free) .state) Free
 abbrev pub withState : Table → ℕ → State → Table
 withState t n s = record { cells = set (t .cells) n (cellOf s); taken = t .taken }
 
+-- how the cells of a sheet stand: how many are taken, and the state of the cell with each number
+pub record Standing : Type 0 where
+  pub taken : ℕ
+  pub state : ℕ → State
+
+abbrev pub standingOf : Table → Standing
+standingOf t = record { taken = t .taken; state = stateAt t }
+
 -- a cell is left to take
-abbrev pub hasRoom : Table → Bool
-hasRoom t = ltb (t .taken) 256
+abbrev pub hasRoom : Standing → Bool
+hasRoom s = ltb (s .taken) 256
 
 -- the next cell, taken with this state
 abbrev pub grown : Table → State → Table

@@ -1,6 +1,7 @@
 // A sheet of checked steps: inputs, claims that wait for their hints, and words that were accepted.
 mod cell;
 mod closed;
+mod closing;
 mod opened;
 mod operands;
 mod refusal;

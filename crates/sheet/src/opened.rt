@@ -1,6 +1,6 @@
 // An open sheet: words are put in, claims entered, settled and struck.
 ghost use mathlib.Core.Path.{_≡_};
-ghost use Rattle.sheet.specs.Calls.{found as foundIn, modelOf, closedModelOf, opened, inputReply, inputAfter, enterReply, enterAfter, presented, answerOf, settleReply, settleAfter, strikeReply, strikeAfter, readReply, closeAfter};
+ghost use Rattle.sheet.specs.Calls.{found as foundIn, modelOf, cellsOf, closedModelOf, opened, inputReply, inputAfter, enterReply, enterAfter, presented, answerOf, settleReply, settleAfter, strikeReply, strikeAfter, readReply, closeAfter};
 ghost use Rattle.sheet.specs.Right.{Refused, Right};
 ghost use Rattle.sheet.specs.Tickets.{ticketOf};
 use crate::cell::State;
@@ -57,7 +57,7 @@ impl<S: System> OpenSheet<S> {
 
     // Takes a cell for a word that is given, and returns the cell's number.
     pub fn input(&mut self, word: Word) -> Result<u64, Refusal>
-        ensures reply { λ r. ⌜ r ≡ inputReply (modelOf (now (self .entry))) ⌝ }
+        ensures reply { λ r. ⌜ r ≡ inputReply (cellsOf (modelOf (now (self .entry)))) ⌝ }
         ensures after { λ _. ⌜ modelOf (now (self .exit)) ≡ inputAfter (modelOf (now (self .entry))) word ⌝ }
     {
         if self.table.has_room() {
@@ -76,7 +76,7 @@ impl<S: System> OpenSheet<S> {
         second: u64,
         word: Word,
     ) -> Result<Ticket, Refusal>
-        ensures reply { λ r. ⌜ r ≡ enterReply (modelOf (now (self .entry))) code first second ⌝ }
+        ensures reply { λ r. ⌜ r ≡ enterReply (now (self .entry) .serial) (cellsOf (modelOf (now (self .entry)))) code first second ⌝ }
         ensures after { λ _. ⌜ modelOf (now (self .exit)) ≡ enterAfter (modelOf (now (self .entry))) code first second word ⌝ }
     {
         let operation = allow(&self.table, code, first, second)?;
@@ -91,7 +91,7 @@ impl<S: System> OpenSheet<S> {
 
     // The state of the cell that a ticket names.
     fn presented(&self, stub: Stub) -> State
-        ensures { λ r. ⌜ r ≡ presented (modelOf (now (self .entry))) (ticketOf stub) ⌝ }
+        ensures { λ r. ⌜ r ≡ presented (now (self .entry) .serial) (cellsOf (modelOf (now (self .entry)))) (ticketOf stub) ⌝ }
     {
         if stub.serial == self.serial {
             self.table.state(stub.cell)
@@ -109,7 +109,7 @@ impl<S: System> OpenSheet<S> {
         word: Word,
         hints: Hints,
     ) -> Result<(), Flaw>
-        ensures { λ r. ⌜ r ≡ foundIn (now (self .entry) .table) operation first second word hints ⌝ }
+        ensures { λ r. ⌜ r ≡ foundIn (cellsOf (modelOf (now (self .entry)))) operation first second word hints ⌝ }
     {
         let a = first_word(&self.table, first);
         let b = second_word(&self.table, operation, second);
@@ -117,7 +117,7 @@ impl<S: System> OpenSheet<S> {
     }
 
     fn settle_stub(&mut self, stub: Stub, hints: Hints) -> Result<u64, Refusal>
-        ensures reply { λ r. ⌜ r ≡ settleReply (modelOf (now (self .entry))) (ticketOf stub) hints ⌝ }
+        ensures reply { λ r. ⌜ r ≡ settleReply (now (self .entry) .serial) (cellsOf (modelOf (now (self .entry)))) (ticketOf stub) hints ⌝ }
         ensures after { λ _. ⌜ modelOf (now (self .exit)) ≡ settleAfter (modelOf (now (self .entry))) (ticketOf stub) hints ⌝ }
     {
         match self.presented(stub) {
@@ -138,7 +138,7 @@ impl<S: System> OpenSheet<S> {
     // Examines a pending claim. It is accepted with its word where no check fails, and struck where one does. It is accepted just
     // where its word and its hints are what the writer gives.
     pub fn settle(&mut self, ticket: Ticket, hints: Hints) -> Result<u64, Refusal>
-        ensures reply { λ r. ⌜ r ≡ settleReply (modelOf (now (self .entry))) ticket hints ⌝ }
+        ensures reply { λ r. ⌜ r ≡ settleReply (now (self .entry) .serial) (cellsOf (modelOf (now (self .entry)))) ticket hints ⌝ }
         ensures after { λ _. ⌜ modelOf (now (self .exit)) ≡ settleAfter (modelOf (now (self .entry))) ticket hints ⌝ }
         ensures right { λ r. ⌜ Right (modelOf (now (self .entry))) ticket hints r ⌝ }
         ensures refused { λ r. ⌜ Refused (modelOf (now (self .entry))) ticket r (modelOf (now (self .exit))) ⌝ }
@@ -148,7 +148,7 @@ impl<S: System> OpenSheet<S> {
 
     // Gives a pending claim up.
     pub fn strike(&mut self, ticket: Ticket) -> Result<u64, Refusal>
-        ensures reply { λ r. ⌜ r ≡ strikeReply (modelOf (now (self .entry))) ticket ⌝ }
+        ensures reply { λ r. ⌜ r ≡ strikeReply (now (self .entry) .serial) (cellsOf (modelOf (now (self .entry)))) ticket ⌝ }
         ensures after { λ _. ⌜ modelOf (now (self .exit)) ≡ strikeAfter (modelOf (now (self .entry))) ticket ⌝ }
     {
         let stub = ticket.spend();
@@ -163,7 +163,7 @@ impl<S: System> OpenSheet<S> {
 
     // The word of an accepted cell.
     pub fn read(&self, cell: u64) -> Result<Word, Refusal>
-        ensures { λ r. ⌜ r ≡ readReply (modelOf (now (self .entry))) cell ⌝ }
+        ensures { λ r. ⌜ r ≡ readReply (cellsOf (modelOf (now (self .entry)))) cell ⌝ }
     {
         word_in(self.table.state(cell))
     }

@@ -4,7 +4,7 @@ ghost use mathlib.Core.Path.{_≡_};
 ghost use Rattle.std.specs.Vec.{made};
 ghost use Rattle.sheet.specs.Calls.{allowed, wordAt, secondWord};
 ghost use Rattle.sheet.specs.Operands.{isRoot, operandChecked, operandsChecked, claimChecked};
-ghost use Rattle.sheet.specs.Tables.{stateAt};
+ghost use Rattle.sheet.specs.Tables.{stateAt, standingOf};
 use crate::cell::State;
 use crate::cell::check_accepted;
 use crate::cell::check_taken;
@@ -49,7 +49,7 @@ fn check_claim(table: &Table, operation: Operation, first: u64, second: u64) -> 
 
 // The operation of a claim that may be entered. That there is room comes first, then the code, then the cells.
 pub(crate) fn allow(table: &Table, code: u32, first: u64, second: u64) -> Result<Operation, Refusal>
-    ensures value { λ r. ⌜ r ≡ allowed (now (table .entry)) code first second ⌝ }
+    ensures value { λ r. ⌜ r ≡ allowed (standingOf (now (table .entry))) code first second ⌝ }
     ensures room { λ r. ⌜ made r (λ _. now (table .entry) .taken < 256) ⌝ }
 {
     if !table.has_room() {
@@ -65,14 +65,14 @@ pub(crate) fn allow(table: &Table, code: u32, first: u64, second: u64) -> Result
 // The words that a claim is examined with. The cells that it names were accepted when it was entered; a cell of any other state
 // gives zero, so that nothing rests on that here.
 pub(crate) fn first_word(table: &Table, first: u64) -> Word
-    ensures { λ r. ⌜ r ≡ wordAt (now (table .entry)) first ⌝ }
+    ensures { λ r. ⌜ r ≡ wordAt (standingOf (now (table .entry))) first ⌝ }
 {
     word_or_zero(table.state(first))
 }
 
 // Zero where the operation is a root, whose second cell is not read.
 pub(crate) fn second_word(table: &Table, operation: Operation, second: u64) -> Word
-    ensures { λ r. ⌜ r ≡ secondWord (now (table .entry)) operation second ⌝ }
+    ensures { λ r. ⌜ r ≡ secondWord (standingOf (now (table .entry))) operation second ⌝ }
 {
     if is_root(operation) {
         Word::ZERO

@@ -3,7 +3,7 @@ ghost use Prim.Native.Nat.{_<_};
 ghost use mathlib.Core.List.{map};
 ghost use mathlib.Core.Path.{_≡_};
 ghost use Rattle.sheet.specs.Cells.{settledState, closedCell};
-ghost use Rattle.sheet.specs.Tables.{emptyTable, stateAt, withState, hasRoom, grown, closedTable};
+ghost use Rattle.sheet.specs.Tables.{emptyTable, stateAt, standingOf, withState, hasRoom, grown, closedTable};
 use crate::cell::Cell;
 use crate::cell::State;
 use crate::cell::close_cell;
@@ -13,7 +13,7 @@ use binary32::Word;
 use checks::Flaw;
 
 // As many cells as a sheet has.
-const CELLS: u64 = 256;
+pub(crate) const CELLS: u64 = 256;
 
 // The cells by their numbers. The next one that is taken has the number `taken`; it is free, and so are all after it.
 #[derive(Drop)]
@@ -54,7 +54,7 @@ impl Table {
 
     // Whether a cell is left to take.
     pub(crate) fn has_room(&self) -> bool
-        ensures { λ r. ⌜ r ≡ hasRoom (now (self .entry)) ⌝ }
+        ensures { λ r. ⌜ r ≡ hasRoom (standingOf (now (self .entry))) ⌝ }
     {
         self.taken < CELLS
     }
