@@ -11,12 +11,7 @@ use binary32::Word;
 use systems::System;
 
 // The total times the weight, plus the word.
-fn with_word<S: System>(
-    system: &S,
-    weight: S::Element,
-    total: S::Element,
-    word: Word,
-) -> S::Element
+fn with_word<S: System>(system: &S, weight: S::Element, total: S::Element, word: Word) -> S::Element
     ensures { λ r. ⌜ ((w n : ℕ) → remainder weight ≡ w % modulus → remainder total ≡ n % modulus → remainder r ≡ foldFrom w n (word ∷ []) % modulus) ⌝ }
 {
     system.sum(
