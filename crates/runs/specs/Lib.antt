@@ -1,1 +1,6 @@
+pub mod Histories
+pub mod Law
+pub mod Replies
 pub mod Rooms
+pub mod Runs
+pub mod Sheets

@@ -6,6 +6,8 @@ ghost use Rattle.std.specs.Of.Vec.{vec-len, vec-cap};
 ghost use Rattle.std.specs.Options.{mapped};
 ghost use Rattle.std.specs.Vec.{made};
 ghost use Rattle.runs.specs.Rooms.{Roomy, countOf};
+ghost use Rattle.runs.specs.Runs.{Obeys, Alike};
+ghost use Rattle.runs.specs.Sheets.{Binding};
 use crate::answer::ClosedAnswer;
 use crate::answer::OpenAnswer;
 use crate::call::ClosedCall;

@@ -28,7 +28,7 @@ found-is s operation first second word hints a b r is at-first at-second =
     subst (λ (y : Word). r ≡ examined operation (wordAt s first .bits) (y .bits) word hints) at-second
     (subst (λ (x : Word). r ≡ examined operation (x .bits) (b .bits) word hints) at-first is)
 
-found-sound : (s : Standing) (operation : Operation) (first second : ℕ) (word : Word) (hints : Hints) →
+pub found-sound : (s : Standing) (operation : Operation) (first second : ℕ) (word : Word) (hints : Hints) →
     Sound (found s operation first second word hints) operation (wordAt s first .bits) (secondWord s operation second .bits) word hints
 unfolding found
 found-sound s operation first second word hints =
