@@ -1,3 +1,5 @@
+pub mod Follows
 pub mod Keeps
 pub mod Moves
 pub mod Statuses
+pub mod Tables
