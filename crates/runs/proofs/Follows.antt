@@ -62,7 +62,6 @@ pub stand-alike : (serial weight : ℕ) (h : History) (m : Model) → Follows se
 stand-alike serial weight h m follows = λ i. record { taken = follows .taken-is i; state = λ n. follows .states n i }
 
 module _ (serial weight : ℕ) (h : History) (m : Model) (follows : Follows serial weight h m) (kept : Kept serial h) where
-
   -- a call that takes no cell and leaves the state of each
   follows-same : (e : Event) → takes e ≡ 0 → ((n : ℕ) → stateOf (statusOf (e ∷ h) n) ≡ stateOf (statusOf h n)) → Follows serial weight (e ∷ h) m
   follows-same e takes-none same = record {
@@ -117,11 +116,11 @@ module _ (serial weight : ℕ) (h : History) (m : Model) (follows : Follows seri
   follows-idle e cell ticket passes takes-none becomes s is undecided t unchanged =
       subst (λ u. Follows serial weight (e ∷ h) (withTable m u)) (sym unchanged)
       (follows-same e takes-none (λ n. ap stateOf (becomes n ∙
-          cond-both (eqb n cell) (decided ticket passes (statusOf h n)) (statusOf h n) (λ r. r ≡ statusOf h n)
-          (λ here.
-              let was : statusOf h n ≡ s = ap (statusOf h) (eqb-true n cell here) ∙ is in
-              ap (decided ticket passes) was ∙ undecided ∙ sym was)
-          (λ elsewhere. refl))))
+      cond-both (eqb n cell) (decided ticket passes (statusOf h n)) (statusOf h n) (λ r. r ≡ statusOf h n)
+      (λ here.
+      let was : statusOf h n ≡ s = ap (statusOf h) (eqb-true n cell here) ∙ is in
+      ap (decided ticket passes) was ∙ undecided ∙ sym was)
+      (λ elsewhere. refl))))
 
   -- a call that decides a pending claim
   follows-changed : (e : Event) (cell ticket : ℕ) (passes : Bool) → takes e ≡ 0 →
@@ -137,10 +136,10 @@ module _ (serial weight : ℕ) (h : History) (m : Model) (follows : Follows seri
         states = λ n.
             ap stateOf (becomes n)
             ∙ cond-both (eqb n cell) (stateOf r) (stateAt (m .table) n)
-              (λ x. stateOf (cond (eqb n cell) (decided ticket passes (statusOf h n)) (statusOf h n)) ≡ x)
-              (λ here. ap stateOf (cond-true (eqb n cell) (decided ticket passes (statusOf h n)) (statusOf h n) here
-                  ∙ ap (λ k. decided ticket passes (statusOf h k)) (eqb-true n cell here) ∙ ap (decided ticket passes) is ∙ decides))
-              (λ elsewhere. ap stateOf (cond-false (eqb n cell) (decided ticket passes (statusOf h n)) (statusOf h n) elsewhere) ∙ follows .states n)
+            (λ x. stateOf (cond (eqb n cell) (decided ticket passes (statusOf h n)) (statusOf h n)) ≡ x)
+            (λ here. ap stateOf (cond-true (eqb n cell) (decided ticket passes (statusOf h n)) (statusOf h n) here
+            ∙ ap (λ k. decided ticket passes (statusOf h k)) (eqb-true n cell here) ∙ ap (decided ticket passes) is ∙ decides))
+            (λ elsewhere. ap stateOf (cond-false (eqb n cell) (decided ticket passes (statusOf h n)) (statusOf h n) elsewhere) ∙ follows .states n)
             ∙ sym (state-set (m .table) cell (m .table .taken) n (stateOf r) within (follows .long));
       })
 
@@ -150,8 +149,7 @@ module _ (serial weight : ℕ) (h : History) (m : Model) (follows : Follows seri
       (at-free : f Free ≡ m .table) (at-input : (w : Word) → f (Input w) ≡ m .table) (at-accepted : (w : Word) → f (Accepted w) ≡ m .table)
       (at-struck : f Struck ≡ m .table)
       (at-pending : (op : Operation) (c : Claim) → presented (m .serial) (cellsOf m) (ticketOf t) ≡ Pending op (c .first) (c .second) (c .word) →
-          f (Pending op (c .first) (c .second) (c .word)) ≡ withState (m .table) (t .cell) (stateOf (cond passes (accepted c) struck))) where
-
+      f (Pending op (c .first) (c .second) (c .word)) ≡ withState (m .table) (t .cell) (stateOf (cond passes (accepted c) struck))) where
     left-alone : (s : Status) → statusOf h (t .cell) ≡ s → f (stateOf s) ≡ m .table → f (presented (m .serial) (cellsOf m) (ticketOf t)) ≡ m .table
     left-alone s is unchanged =
         let own = eqb (t .serial) (m .serial) in
@@ -164,9 +162,9 @@ module _ (serial weight : ℕ) (h : History) (m : Model) (follows : Follows seri
         let waits = kept .waits (t .cell) c is in
         let op = waits .op in
         let state-is : stateAt (m .table) (t .cell) ≡ Pending op (c .first) (c .second) (c .word)
-            = sym (follows .states (t .cell)) ∙ ap stateOf is ∙ ap (λ o. pendingState o c) (waits .names .operation) in
+        = sym (follows .states (t .cell)) ∙ ap stateOf is ∙ ap (λ o. pendingState o c) (waits .names .operation) in
         let presented-is : presented (m .serial) (cellsOf m) (ticketOf t) ≡ Pending op (c .first) (c .second) (c .word)
-            = cond-true (eqb (t .serial) (m .serial)) (stateAt (m .table) (t .cell)) Free own ∙ state-is in
+        = cond-true (eqb (t .serial) (m .serial)) (stateAt (m .table) (t .cell)) Free own ∙ state-is in
         let serials : c .serial ≡ t .serial = waits .serial-is ∙ sym (follows .serial-is) ∙ sym (eqb-true (t .serial) (m .serial) own) in
         follows-changed e (t .cell) (t .serial) passes takes-none becomes (pending c) (cond passes (accepted c) struck) is
         (cond-true (eqb (c .serial) (t .serial)) (cond passes (accepted c) struck) (pending c) (eq-eqb (c .serial) (t .serial) serials))
@@ -175,7 +173,7 @@ module _ (serial weight : ℕ) (h : History) (m : Model) (follows : Follows seri
     follows-pending c is false other =
         let waits = kept .waits (t .cell) c is in
         let apart : c .serial ≡ t .serial → ⊥
-            = λ same. eqb-false (t .serial) (m .serial) other (sym same ∙ waits .serial-is ∙ sym (follows .serial-is)) in
+        = λ same. eqb-false (t .serial) (m .serial) other (sym same ∙ waits .serial-is ∙ sym (follows .serial-is)) in
         follows-idle e (t .cell) (t .serial) passes takes-none becomes (pending c) is
         (cond-false (eqb (c .serial) (t .serial)) (cond passes (accepted c) struck) (pending c) (ne-eqb (c .serial) (t .serial) apart))
         (f (presented (m .serial) (cellsOf m) (ticketOf t)))
@@ -201,9 +199,9 @@ module _ (serial weight : ℕ) (h : History) (m : Model) (follows : Follows seri
       follows-ticket (on-open (call.Settle t hints) (answer.Settle reply)) t (isOk reply) (settleAfterAt (m .table) (t .cell) hints) refl (λ n. refl)
       refl (λ w. refl) (λ w. refl) refl
       (λ op c met.
-          let o = found (cellsOf m) op (c .first) (c .second) (c .word) hints in
-          ap (withState (m .table) (t .cell))
-          (settled-state (t .cell) c o ∙ ap (λ r. stateOf (cond (isOk r) (accepted c) struck)) (sym (ap (settleReplyAt (cellsOf m) (t .cell) hints) met))))
+      let o = found (cellsOf m) op (c .first) (c .second) (c .word) hints in
+      ap (withState (m .table) (t .cell))
+      (settled-state (t .cell) c o ∙ ap (λ r. stateOf (cond (isOk r) (accepted c) struck)) (sym (ap (settleReplyAt (cellsOf m) (t .cell) hints) met))))
       (statusOf h (t .cell)) refl
 
   follows-strike : (t : Stub) (a : OpenAnswer) →

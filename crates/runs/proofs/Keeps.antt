@@ -56,7 +56,6 @@ holds-since serial h s r (accepted-now d was now holds) before c is = let e : d 
 holds-since serial h s r (struck-now d was now) before c is = let z : _≡_ {A = ℕ} 0 1 = cc in absurd (omega arith)
 
 module _ (serial : ℕ) (h : History) (kept : Kept serial h) where
-
   -- cells beyond those that are taken stay untaken
   fresh-input : (word : Word) (n : ℕ) (room : Bool) →
       takenIn h + takes (on-open (call.Input word) (answer.Input (cond room (Ok (takenIn h)) (Err refusal.Full)))) ≤ n →
@@ -94,7 +93,6 @@ module _ (serial : ℕ) (h : History) (kept : Kept serial h) where
   fresh-more weight modulus (on-closed c a) is n = λ beyond. kept .fresh n (omega arith)
 
   module _ (e : Event) (goes : (n : ℕ) → Move serial h (statusOf h n) (statusOf (e ∷ h) n)) where
-
     names-stay : (c : Claim) (op : Operation) (a b : Word) → Names h c op a b → Names (e ∷ h) c op a b
     names-stay c op a b names = record {
       operation = names .operation;

@@ -1,5 +1,7 @@
 pub mod Follows
 pub mod Keeps
 pub mod Moves
+pub mod Reaches
+pub mod Replays
 pub mod Statuses
 pub mod Tables

@@ -59,7 +59,6 @@ pub data Move (serial : ℕ) (h : History) (s r : Status) : Type 0 where
   struck-now : (c : Claim) → s ≡ pending c → r ≡ struck → Move serial h s r
 
 module _ (serial : ℕ) (h : History) (kept : Kept serial h) where
-
   -- an answered input takes the next cell, which is untaken
   move-input : (word : Word) (n : ℕ) (room : Bool) →
       Move serial h (statusOf h n) (given-at (cellIn (answer.Input (cond room (Ok (takenIn h)) (Err refusal.Full)))) word n (statusOf h n))
@@ -101,7 +100,7 @@ module _ (serial : ℕ) (h : History) (kept : Kept serial h) where
       let names = names-checked op c (may .operation) (isRoot op) refl (may .checked) in
       cond-both (eqb n (takenIn h)) (pending c) (statusOf h n) (Move serial h (statusOf h n))
       (λ here. pending-now c (kept .fresh n (omega (arith, eqb-true n (takenIn h) here))) refl
-          (record { serial-is = refl; op = op; a = wordAt (standing h) first; b = wordAt (standing h) second; names = names }))
+      (record { serial-is = refl; op = op; a = wordAt (standing h) first; b = wordAt (standing h) second; names = names }))
       (λ elsewhere. same refl)
 
   -- a settle that meets a pending claim of its serial and cell
@@ -114,10 +113,10 @@ module _ (serial : ℕ) (h : History) (kept : Kept serial h) where
       let op = waits .op in
       let o = found s op (c .first) (c .second) (c .word) hints in
       let state-is : stateOf (statusOf h (t .cell)) ≡ Pending op (c .first) (c .second) (c .word)
-          = ap stateOf is ∙ ap (λ p. pendingState p c) (names .operation) in
+      = ap stateOf is ∙ ap (λ p. pendingState p c) (names .operation) in
       let own-serial : t .serial ≡ serial = sym own ∙ waits .serial-is in
       let presented-is : presented serial s (ticketOf t) ≡ Pending op (c .first) (c .second) (c .word)
-          = cond-true (eqb (t .serial) serial) (stateOf (statusOf h (t .cell))) Free (eq-eqb (t .serial) serial own-serial) ∙ state-is in
+      = cond-true (eqb (t .serial) serial) (stateOf (statusOf h (t .cell))) Free (eq-eqb (t .serial) serial own-serial) ∙ state-is in
       let reply-is : settleReply serial s (ticketOf t) hints ≡ answerOf (t .cell) o = ap (settleReplyAt s (t .cell) hints) presented-is in
       let sound = found-sound s op (c .first) (c .second) (c .word) hints in
       record {
@@ -147,7 +146,7 @@ module _ (serial : ℕ) (h : History) (kept : Kept serial h) where
   move-decided ticket passes (pending c) holds =
       cond-both (eqb (c .serial) ticket) (cond passes (accepted c) struck) (pending c) (Move serial h (pending c))
       (λ own. cond-both passes (accepted c) struck (Move serial h (pending c))
-          (λ pass. accepted-now c refl refl (holds c refl (eqb-true (c .serial) ticket own) pass)) (λ fail. struck-now c refl refl))
+      (λ pass. accepted-now c refl refl (holds c refl (eqb-true (c .serial) ticket own) pass)) (λ fail. struck-now c refl refl))
       (λ other. same refl)
   move-decided ticket passes (accepted c) holds = same refl
   move-decided ticket passes struck holds = same refl
@@ -158,7 +157,7 @@ module _ (serial : ℕ) (h : History) (kept : Kept serial h) where
   move-at cell ticket passes n holds =
       cond-both (eqb n cell) (decided ticket passes (statusOf h n)) (statusOf h n) (Move serial h (statusOf h n))
       (λ here. move-decided ticket passes (statusOf h n)
-          (λ c is own pass. holds c (ap (statusOf h) (sym (eqb-true n cell here)) ∙ is) own pass))
+      (λ c is own pass. holds c (ap (statusOf h) (sym (eqb-true n cell here)) ∙ is) own pass))
       (λ elsewhere. same refl)
 
   move-closed : (s : Status) → Move serial h s (closed-up s)
@@ -180,7 +179,7 @@ module _ (serial : ℕ) (h : History) (kept : Kept serial h) where
   moves weight modulus (on-open (call.Settle t hints) a) is n =
       subst (λ x. Move serial h (statusOf h n) (cond (eqb n (t .cell)) (decided (t .serial) (granted x) (statusOf h n)) (statusOf h n))) (sym is)
       (move-at (t .cell) (t .serial) (isOk (settleReply serial (standing h) (ticketOf t) hints)) n
-          (λ c met own pass. holds-since c hints (writers t hints c met own) pass))
+      (λ c met own pass. holds-since c hints (writers t hints c met own) pass))
   moves weight modulus (on-open (call.Strike t) a) is n =
       move-at (t .cell) (t .serial) false n (λ c met own pass. never c pass)
   moves weight modulus (on-open (call.Read cell) a) is n = same refl

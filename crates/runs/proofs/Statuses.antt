@@ -76,9 +76,10 @@ both-checked s r passed =
     let a1 = acceptedIn (stateOf s) 1 in
     let a2 = acceptedIn (stateOf r) 2 in
     let rest = before-second t1 (before t2 (before a1 a2)) passed in
-    let last = before-second t2 (before a1 a2) rest in
-    (passed-accepted s 1 (before-first t1 (before t2 (before a1 a2)) passed) (before-first a1 a2 last),
-     passed-accepted r 2 (before-first t2 (before a1 a2) rest) (before-second a1 a2 last))
+    let last = before-second t2 (before a1 a2) rest in (
+      passed-accepted s 1 (before-first t1 (before t2 (before a1 a2)) passed) (before-first a1 a2 last),
+      passed-accepted r 2 (before-first t2 (before a1 a2) rest) (before-second a1 a2 last),
+    )
 
 -- a claim that may be entered has an operation, and its operands were checked
 pub record Allowed (s : Standing) (code first second : ℕ) (op : Operation) : Type 0 where

@@ -34,21 +34,21 @@ pub state-set : (t : Table) (k taken n : ℕ) (x : State) → k < 256 → length
 state-set t k taken n x within long =
     cond-both (eqb n k) x (stateAt t n) (λ s. stateAt (record { cells = set (t .cells) k (cellOf x); taken = taken }) n ≡ s)
     (λ here.
-        let is : n ≡ k = eqb-true n k here in
-        let n-within : n < 256 = omega arith in
-        cond-true (ltb n 256) (getD (set (t .cells) k (cellOf x)) n (cellOf Free) .state) Free (lt-ltb n 256 n-within)
-        ∙ ap (λ j. getD (set (t .cells) k (cellOf x)) j (cellOf Free) .state) is
-        ∙ ap (λ c. c .state) (getD-set-same (t .cells) k (cellOf x) (cellOf Free) (omega arith)))
+    let is : n ≡ k = eqb-true n k here in
+    let n-within : n < 256 = omega arith in
+    cond-true (ltb n 256) (getD (set (t .cells) k (cellOf x)) n (cellOf Free) .state) Free (lt-ltb n 256 n-within)
+    ∙ ap (λ j. getD (set (t .cells) k (cellOf x)) j (cellOf Free) .state) is
+    ∙ ap (λ c. c .state) (getD-set-same (t .cells) k (cellOf x) (cellOf Free) (omega arith)))
     (λ elsewhere.
-        ap (λ c. cond (ltb n 256) (c .state) Free) (getD-set-other (t .cells) k n (cellOf x) (cellOf Free) (eqb-false n k elsewhere)))
+    ap (λ c. cond (ltb n 256) (c .state) Free) (getD-set-other (t .cells) k n (cellOf x) (cellOf Free) (eqb-false n k elsewhere)))
 
 pub state-closed : (t : Table) (n : ℕ) → length (t .cells) ≡ 256 → stateAt (closedTable t) n ≡ closedState (stateAt t n)
 state-closed t n long =
     cond-both (ltb n 256) (getD (t .cells) n (cellOf Free) .state) Free
     (λ s. stateAt (closedTable t) n ≡ closedState s)
     (λ within.
-        cond-true (ltb n 256) (getD (map closedCell (t .cells)) n (cellOf Free) .state) Free within
-        ∙ ap (λ c. c .state) (getD-map closedCell (t .cells) n (cellOf Free) (cellOf Free) (omega (arith, ltb-true n 256 within))))
+    cond-true (ltb n 256) (getD (map closedCell (t .cells)) n (cellOf Free) .state) Free within
+    ∙ ap (λ c. c .state) (getD-map closedCell (t .cells) n (cellOf Free) (cellOf Free) (omega (arith, ltb-true n 256 within))))
     (λ beyond. cond-false (ltb n 256) (getD (map closedCell (t .cells)) n (cellOf Free) .state) Free beyond)
 
 -- a cell that is pending is one of the table

@@ -1,5 +1,6 @@
 pub mod Histories
 pub mod Law
+pub mod Met
 pub mod Replies
 pub mod Rooms
 pub mod Runs

@@ -4,17 +4,22 @@ use mathlib.Core.List.{List, [], _∷_, map}
 use mathlib.Core.Path.{_≡_}
 use lib.ListN.{length}
 use Rattle.std.specs.Of.Vec.{vec-items}
+use Rattle.std.specs.Vec.{made}
+use Rattle.std.specs.declared.alloc.AllocError.{AllocError}
 use Rattle.std.specs.declared.option.Option.{Option}
 use Rattle.std.specs.declared.option.Option.the-variants.{Some, None}
+use Rattle.std.specs.declared.result.Result.{Result}
 use Rattle.runs.specs.Histories.{History, on-open, close, on-closed}
 use Rattle.runs.specs.Law.{Law}
 use Rattle.runs.specs.Rooms.{countOf}
+use Rattle.runs.specs.Sheets.{Binding}
 use Rattle.runs.specs.declared.answer.ClosedAnswer.{ClosedAnswer}
 use Rattle.runs.specs.declared.answer.ClosedAnswer.the-variants.{Read, ClosingNumber, HandIn}
 use Rattle.runs.specs.declared.answer.OpenAnswer.{OpenAnswer}
 use Rattle.runs.specs.declared.call.ClosedCall.{ClosedCall}
 use Rattle.runs.specs.declared.call.OpenCall.{OpenCall}
 use Rattle.runs.specs.declared.run.Answers.{Answers}
+use Rattle.runs.specs.declared.run.Replayed.{Replayed}
 
 -- a history and then these calls with these answers, each with its own
 abbrev pub met : History → List OpenCall → List OpenAnswer → History
@@ -48,3 +53,11 @@ unnumbered (HandIn ticket) = HandIn ticket
 pub record Alike (r s : Answers) : Type 0 where
   pub opened : vec-items (r .opened) ≡ vec-items (s .opened)
   pub closed : map unnumbered (vec-items (r .closed)) ≡ map unnumbered (vec-items (s .closed))
+
+-- The law of runs, of a replay over two systems with these moduli: the answers of both sheets obey the law, they are the same but for
+-- closing numbers, and the law binds every sheet that meets calls, not this replay alone.
+pub record LawOfRuns (serial weight modulus other : ℕ) (calls : List OpenCall) (closed : Option (List ClosedCall)) (r : Result Replayed AllocError) : Type 0 where
+  pub first : made r (λ x. Obeys serial weight modulus calls closed (x .first))
+  pub second : made r (λ x. Obeys serial weight other calls closed (x .second))
+  pub alike : made r (λ x. Alike (x .first) (x .second))
+  pub binding : Binding

@@ -1,4 +1,9 @@
 // One call, made on a sheet.
+ghost use mathlib.Core.Path.{_≡_};
+ghost use Rattle.sheet.specs.Calls.{modelOf, closedModelOf, cellsOf, enterReply, enterAfter};
+ghost use Rattle.sheet.specs.Tickets.{ticketOf};
+ghost use Rattle.runs.specs.Replies.{stubbed, openReply, closedReply};
+ghost use Rattle.runs.specs.Sheets.{openAfter};
 use crate::answer::ClosedAnswer;
 use crate::answer::OpenAnswer;
 use crate::call::ClosedCall;
@@ -11,7 +16,9 @@ use sheet::Stub;
 use sheet::Ticket;
 use systems::System;
 
-fn presented(stub: Stub) -> Ticket {
+fn presented(stub: Stub) -> Ticket
+    ensures { λ r. ⌜ r ≡ ticketOf stub ⌝ }
+{
     Ticket::new(stub.serial, stub.cell)
 }
 
@@ -24,7 +31,10 @@ fn enter<S: System>(
     first: u64,
     second: u64,
     word: Word,
-) -> Result<Stub, Refusal> {
+) -> Result<Stub, Refusal>
+    ensures reply { λ r. ⌜ r ≡ stubbed (enterReply (now (sheet .entry) .serial) (cellsOf (modelOf (now (sheet .entry)))) code first second) ⌝ }
+    ensures after { λ _. ⌜ modelOf (now (sheet .exit)) ≡ enterAfter (modelOf (now (sheet .entry))) code first second word ⌝ }
+{
     match sheet.enter(code, first, second, word) {
         Ok(ticket) => Ok(counter.hand_in(ticket)),
         Err(refusal) => Err(refusal),
@@ -35,7 +45,10 @@ pub(crate) fn meet_open<S: System>(
     sheet: &mut OpenSheet<S>,
     counter: &ClosedSheet<S>,
     call: OpenCall,
-) -> OpenAnswer {
+) -> OpenAnswer
+    ensures reply { λ r. ⌜ r ≡ openReply (now (sheet .entry) .serial) (cellsOf (modelOf (now (sheet .entry)))) call ⌝ }
+    ensures after { λ _. ⌜ modelOf (now (sheet .exit)) ≡ openAfter (modelOf (now (sheet .entry))) call ⌝ }
+{
     match call {
         OpenCall::Input(word) => OpenAnswer::Input(sheet.input(word)),
         OpenCall::Enter {
@@ -52,7 +65,9 @@ pub(crate) fn meet_open<S: System>(
     }
 }
 
-pub(crate) fn meet_closed<S: System>(sheet: &ClosedSheet<S>, call: ClosedCall) -> ClosedAnswer {
+pub(crate) fn meet_closed<S: System>(sheet: &ClosedSheet<S>, call: ClosedCall) -> ClosedAnswer
+    ensures { λ r. ⌜ r ≡ closedReply modulus (now (sheet .entry) .weight) (cellsOf (closedModelOf (now (sheet .entry)))) call ⌝ }
+{
     match call {
         ClosedCall::Read(cell) => ClosedAnswer::Read(sheet.read(cell)),
         ClosedCall::ClosingNumber => ClosedAnswer::ClosingNumber(sheet.closing_number()),

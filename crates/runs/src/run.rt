@@ -2,12 +2,14 @@
 ghost use Prim.Native.Nat.{_+_, _≤_};
 ghost use lib.ListN.{length};
 ghost use mathlib.Core.Path.{_≡_};
-ghost use Rattle.std.specs.Of.Vec.{vec-len, vec-cap};
+ghost use mathlib.Core.List.{_++_};
+ghost use Rattle.std.specs.Of.Vec.{vec-items, vec-len, vec-cap};
 ghost use Rattle.std.specs.Options.{mapped};
 ghost use Rattle.std.specs.Vec.{made};
+ghost use Rattle.sheet.specs.Calls.{modelOf, closedModelOf, opened as openedWith};
+ghost use Rattle.runs.specs.Met.{answersFrom, afterAll, closedAnswers, laterAnswers};
 ghost use Rattle.runs.specs.Rooms.{Roomy, countOf};
-ghost use Rattle.runs.specs.Runs.{Obeys, Alike};
-ghost use Rattle.runs.specs.Sheets.{Binding};
+ghost use Rattle.runs.specs.Runs.{LawOfRuns};
 use crate::answer::ClosedAnswer;
 use crate::answer::OpenAnswer;
 use crate::call::ClosedCall;
@@ -42,6 +44,8 @@ fn meet_all<S: System>(
     answers: &mut Vec<OpenAnswer>,
 )
     requires { ⌜ vec-len (now answers) + length (now calls) ≤ vec-cap (now answers) ⌝ }
+    ensures items { λ _. ⌜ vec-items (now (answers .exit)) ≡ vec-items (now (answers .entry)) ++ answersFrom (modelOf (now (sheet .entry))) (now (calls .entry)) ⌝ }
+    ensures after { λ _. ⌜ modelOf (now (sheet .exit)) ≡ afterAll (modelOf (now (sheet .entry))) (now (calls .entry)) ⌝ }
 {
     for call in calls {
         answers.push_reserved(meet_open(sheet, counter, *call));
@@ -55,6 +59,7 @@ fn meet_all_closed<S: System>(
     answers: &mut Vec<ClosedAnswer>,
 )
     requires { ⌜ vec-len (now answers) + length (now calls) ≤ vec-cap (now answers) ⌝ }
+    ensures { λ _. ⌜ vec-items (now (answers .exit)) ≡ vec-items (now (answers .entry)) ++ closedAnswers modulus (closedModelOf (now (sheet .entry))) (now (calls .entry)) ⌝ }
 {
     for call in calls {
         answers.push_reserved(meet_closed(sheet, *call));
@@ -71,6 +76,8 @@ fn answers_on<S: System>(
     room: Answers,
 ) -> Answers
     requires { ⌜ Roomy room (length (now opened)) (countOf (mapped now closed)) ⌝ }
+    ensures opened { λ r. ⌜ vec-items (r .opened) ≡ answersFrom (openedWith serial weight) (now (opened .entry)) ⌝ }
+    ensures closed { λ r. ⌜ vec-items (r .closed) ≡ laterAnswers modulus (afterAll (openedWith serial weight) (now (opened .entry))) (mapped now (closed .entry)) ⌝ }
 {
     let Answers {
         opened: mut while_open,
@@ -116,7 +123,9 @@ pub fn replay<S: System, T: System>(
     weight: u64,
     opened: &[OpenCall],
     closed: Option<&[ClosedCall]>,
-) -> Result<Replayed, AllocError> {
+) -> Result<Replayed, AllocError>
+    ensures { λ r. ⌜ LawOfRuns serial weight (S·System .modulus) (T·System .modulus) (now (opened .entry)) (mapped now (closed .entry)) r ⌝ }
+{
     let room = room_for(heap, opened.len(), count(closed))?;
     let other = room_for(heap, opened.len(), count(closed))?;
     Ok(Replayed {
