@@ -113,9 +113,8 @@ fn count(closed: Option<&[ClosedCall]>) -> usize
     }
 }
 
-// Makes the calls on a sheet over each system: those on the open sheet, then, unless there is `None`, the close and the calls on
-// the closed sheet. Room for the answers is made first, so that want of memory comes before the first call.
-pub fn replay<S: System, T: System>(
+// Room for the answers is made first, so that want of memory comes before the first call.
+fn replay_both<S: System, T: System>(
     heap: Global,
     first: S,
     second: T,
@@ -132,4 +131,20 @@ pub fn replay<S: System, T: System>(
         first: answers_on(first, serial, weight, opened, closed, room),
         second: answers_on(second, serial, weight, opened, closed, other),
     })
+}
+
+// Makes the calls on a sheet over each system: those on the open sheet, then, unless there is `None`, the close and the calls on
+// the closed sheet. Whatever the calls are, the answers obey the law of runs; want of memory comes before the first call.
+pub fn replay<S: System, T: System>(
+    heap: Global,
+    first: S,
+    second: T,
+    serial: u32,
+    weight: u64,
+    opened: &[OpenCall],
+    closed: Option<&[ClosedCall]>,
+) -> Result<Replayed, AllocError>
+    ensures { λ r. ⌜ LawOfRuns serial weight (S·System .modulus) (T·System .modulus) (now (opened .entry)) (mapped now (closed .entry)) r ⌝ }
+{
+    replay_both(heap, first, second, serial, weight, opened, closed)
 }

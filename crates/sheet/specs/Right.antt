@@ -9,7 +9,7 @@ use Rattle.checks.specs.Examined.{claimOf}
 use Rattle.hints.specs.Writer.{writtenStep}
 use Rattle.hints.specs.declared.writer.Hints.{Hints}
 use Rattle.sheet.specs.Calls.{Model, cellsOf, presented, wordAt, secondWord, withTable}
-use Rattle.sheet.specs.Refusals.{numberOf}
+use Rattle.sheet.specs.Refusals.{toldOf}
 use Rattle.sheet.specs.Tables.{Standing, withState}
 use Rattle.sheet.specs.declared.cell.State.{State}
 use Rattle.sheet.specs.declared.cell.State.the-variants.{Free, Input, Pending, Accepted, Struck}
@@ -33,4 +33,4 @@ Right m ticket hints reply = RightAt (cellsOf m) (ticket .cell) hints (presented
 -- a refusal with a number below 6 leaves the sheet as it was, one from 6 on strikes the cell
 abbrev pub Refused : Model → Ticket → Result ℕ Refusal → Model → Type 0
 Refused m ticket (Ok cell) after = Unit {0}
-Refused m ticket (Err r) after = after ≡ cond (ltb (numberOf r) 6) m (withTable m (withState (m .table) (ticket .cell) Struck))
+Refused m ticket (Err r) after = after ≡ cond (ltb (toldOf r .number) 6) m (withTable m (withState (m .table) (ticket .cell) Struck))

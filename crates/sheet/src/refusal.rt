@@ -1,6 +1,6 @@
 // What a caller of a sheet gets instead of an answer.
 ghost use mathlib.Core.Path.{_≡_};
-ghost use Rattle.sheet.specs.Refusals.{numberOf, layerOf, valuesOf};
+ghost use Rattle.sheet.specs.Refusals.{toldOf, valuesOf};
 use hints::Layer;
 
 #[derive(Clone, Copy, PartialEq, Eq, Debug)]
@@ -33,7 +33,7 @@ pub struct Values {
 
 impl Refusal {
     pub fn number(self) -> u32
-        ensures { λ r. ⌜ r ≡ numberOf self ⌝ }
+        ensures { λ r. ⌜ r ≡ toldOf self .number ⌝ }
     {
         match self {
             Refusal::Full => 1,
@@ -50,7 +50,7 @@ impl Refusal {
     }
 
     pub fn layer(self) -> Layer
-        ensures { λ r. ⌜ r ≡ layerOf self ⌝ }
+        ensures { λ r. ⌜ r ≡ toldOf self .layer ⌝ }
     {
         match self {
             Refusal::Full

@@ -3,7 +3,7 @@ use Rattle.std.specs.Options.{mapped}
 use Rattle.sheet.specs.Calls.{opened}
 use Rattle.runs.proofs.Reaches.{binding}
 use Rattle.runs.proofs.Replays.{alike, law-refused, obeys}
-use Rattle.runs.proofs.run.replay.Needs as need
+use Rattle.runs.proofs.run.replay_both.Needs as need
 
 pub returns-in-Break-room : need.returns-in-Break-room
 returns-in-Break-room g c =
