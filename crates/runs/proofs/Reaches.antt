@@ -16,14 +16,14 @@ use Rattle.runs.specs.declared.answer.OpenAnswer.{OpenAnswer}
 use Rattle.runs.specs.declared.call.ClosedCall.{ClosedCall}
 use Rattle.runs.specs.declared.call.OpenCall.{OpenCall}
 
-abbrev modelIn : Sheet → Model
+abbrev pub modelIn : Sheet → Model
 modelIn (is-open m) = m
 modelIn (is-closed m) = m
 
-record Known (serial weight modulus : ℕ) (h : History) (s : Sheet) : Type 0 where
-  kept : Kept serial h
-  follows : Follows serial weight h (modelIn s)
-  law : Law serial weight modulus h
+pub record Known (serial weight modulus : ℕ) (h : History) (s : Sheet) : Type 0 where
+  pub kept : Kept serial h
+  pub follows : Follows serial weight h (modelIn s)
+  pub law : Law serial weight modulus h
 
 -- before the first call no cell is taken
 known-opened : (serial weight modulus : ℕ) → Known serial weight modulus [] (is-open (opened serial weight))
@@ -72,7 +72,7 @@ module _ (serial weight modulus : ℕ) (h : History) where
       (known-event (on-closed c a) (is-closed m) (is-closed m) known (answered-closed m (known .follows) c a (step .0))
       (follows-closed serial weight h m (known .follows) (known .kept) c a))
 
-known-reached : (serial weight modulus : ℕ) (h : History) (s : Sheet) → Reached serial weight modulus h s → Known serial weight modulus h s
+pub known-reached : (serial weight modulus : ℕ) (h : History) (s : Sheet) → Reached serial weight modulus h s → Known serial weight modulus h s
 known-reached serial weight modulus [] s is = subst (Known serial weight modulus []) (sym is) (known-opened serial weight modulus)
 known-reached serial weight modulus (e ∷ h) s reached =
     known-more serial weight modulus h (reached .0) (known-reached serial weight modulus h (reached .0) (reached .1)) e s (reached .2)

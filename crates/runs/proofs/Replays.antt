@@ -14,6 +14,7 @@ use Rattle.std.specs.declared.option.Option.the-variants.{Some, None}
 use Rattle.std.specs.declared.result.Result.{Result}
 use Rattle.std.specs.declared.result.Result.the-variants.{Ok, Err}
 use Rattle.sheet.specs.Calls.{Model, cellsOf, closeAfter, opened}
+use Rattle.runs.proofs.Passes.{honest}
 use Rattle.runs.proofs.Reaches.{binding}
 use Rattle.runs.specs.Histories.{History, on-open, close, on-closed}
 use Rattle.runs.specs.Law.{Law}
@@ -135,4 +136,4 @@ later-answers modulus m k cs closed now before are none is calls =
 pub law-refused : (serial weight modulus other : ℕ) (calls : List OpenCall) (closed : Option (List ClosedCall)) (r : Result Replayed AllocError) →
     isErr r ≡ true → LawOfRuns serial weight modulus other calls closed r
 law-refused serial weight modulus other calls closed (Ok x) failed = let z : _≡_ {A = ℕ} 0 1 = cc in absurd (omega arith)
-law-refused serial weight modulus other calls closed (Err e) failed = record { first = tt; second = tt; alike = tt; binding = binding }
+law-refused serial weight modulus other calls closed (Err e) failed = record { first = tt; second = tt; alike = tt; binding = binding; honest = honest }

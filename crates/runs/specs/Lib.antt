@@ -1,4 +1,5 @@
 pub mod Histories
+pub mod Honest
 pub mod Law
 pub mod Met
 pub mod Replies

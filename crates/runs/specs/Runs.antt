@@ -10,6 +10,7 @@ use Rattle.std.specs.declared.option.Option.{Option}
 use Rattle.std.specs.declared.option.Option.the-variants.{Some, None}
 use Rattle.std.specs.declared.result.Result.{Result}
 use Rattle.runs.specs.Histories.{History, on-open, close, on-closed}
+use Rattle.runs.specs.Honest.{Honest}
 use Rattle.runs.specs.Law.{Law}
 use Rattle.runs.specs.Rooms.{countOf}
 use Rattle.runs.specs.Sheets.{Binding}
@@ -55,9 +56,10 @@ pub record Alike (r s : Answers) : Type 0 where
   pub closed : map unnumbered (vec-items (r .closed)) ≡ map unnumbered (vec-items (s .closed))
 
 -- The law of runs, of a replay over two systems with these moduli: the answers of both sheets obey the law, they are the same but for
--- closing numbers, and the law binds every sheet that meets calls, not this replay alone.
+-- closing numbers, the law binds every sheet that meets calls, not this replay alone, and there are steps that it is about.
 pub record LawOfRuns (serial weight modulus other : ℕ) (calls : List OpenCall) (closed : Option (List ClosedCall)) (r : Result Replayed AllocError) : Type 0 where
   pub first : made r (λ x. Obeys serial weight modulus calls closed (x .first))
   pub second : made r (λ x. Obeys serial weight other calls closed (x .second))
   pub alike : made r (λ x. Alike (x .first) (x .second))
   pub binding : Binding
+  pub honest : Honest

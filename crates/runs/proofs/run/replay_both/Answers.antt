@@ -1,6 +1,7 @@
 use denote.Ref.{now}
 use Rattle.std.specs.Options.{mapped}
 use Rattle.sheet.specs.Calls.{opened}
+use Rattle.runs.proofs.Passes.{honest}
 use Rattle.runs.proofs.Reaches.{binding}
 use Rattle.runs.proofs.Replays.{alike, law-refused, obeys}
 use Rattle.runs.proofs.run.replay_both.Needs as need
@@ -30,4 +31,5 @@ returns g c =
       alike = alike (g .S·System .modulus) (g .T·System .modulus) (opened (x .serial) (x .weight)) calls closed r s
           (c .answers-on .ensures .opened) (c .answers-on .ensures .closed) (c .answers-on-2 .ensures .opened) (c .answers-on-2 .ensures .closed);
       binding = binding;
+      honest = honest;
     }

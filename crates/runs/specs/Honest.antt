@@ -1,0 +1,36 @@
+-- That the law speaks of something: on every sheet a step is accepted that has the writer's word and hints.
+use Prim.Native.Nat.{ℕ}
+use mathlib.Core.List.{[], _∷_}
+use mathlib.Core.Path.{_≡_}
+use Rattle.std.specs.declared.result.Result.the-variants.{Ok}
+use Rattle.binary32.specs.Operations.{codeOf}
+use Rattle.binary32.specs.declared.operation.Operation.{Operation}
+use Rattle.binary32.specs.declared.word.Word.{Word}
+use Rattle.hints.specs.Writer.{writtenStep}
+use Rattle.hints.specs.declared.writer.Written.{Written}
+use Rattle.sheet.specs.declared.ticket.Stub.{Stub}
+use Rattle.runs.specs.Histories.{Claim, History, on-open, accepted, statusOf}
+use Rattle.runs.specs.Sheets.{Reached, Sheet}
+use Rattle.runs.specs.declared.answer.OpenAnswer.the-variants as answer
+use Rattle.runs.specs.declared.call.OpenCall.the-variants as call
+
+abbrev pub third : ℕ → Stub
+third serial = record { serial = serial; cell = 2 }
+
+-- two words are put in, a claim about them is entered and settled, and none of these calls is refused
+abbrev pub passing : ℕ → Operation → Word → Word → Written → History
+passing serial op a b w =
+    on-open (call.Settle (third serial) (w .hints)) (answer.Settle (Ok 2))
+    ∷ on-open (call.Enter (codeOf op) 0 1 (w .word)) (answer.Enter (Ok (third serial)))
+    ∷ on-open (call.Input b) (answer.Input (Ok 1))
+    ∷ on-open (call.Input a) (answer.Input (Ok 0))
+    ∷ []
+
+abbrev pub claimIn : ℕ → Operation → Written → Claim
+claimIn serial op w = record { serial = serial; code = codeOf op; first = 0; second = 1; word = w .word }
+
+-- with what the writer gives for any operation on any words, a sheet can meet that history, and then the step is accepted
+abbrev pub Honest : Type 0
+Honest = (serial weight modulus : ℕ) (op : Operation) (a b : Word) →
+    ((s : Sheet) × Reached serial weight modulus (passing serial op a b (writtenStep op (a .bits) (b .bits))) s)
+    × (statusOf (passing serial op a b (writtenStep op (a .bits) (b .bits))) 2 ≡ accepted (claimIn serial op (writtenStep op (a .bits) (b .bits))))
