@@ -2,25 +2,22 @@
 use Prim.Native.Nat.{ℕ, _+_, _<_}
 use mathlib.Core.Bool.{Bool, true, false, cond}
 use mathlib.Core.List.{[], _∷_}
-use mathlib.Core.Path.{_≡_, refl, sym, ap, _∙_, subst, fun-ext}
+use mathlib.Core.Path.{_≡_, refl, sym, ap, _∙_, subst}
 use native.Mathlib.Nat.{add-zero}
-use native.Mathlib.Omega.{arith}
 use lib.Dec.{eqb, ltb}
 use lib.ListN.{length}
 use Rattle.std.proofs.shelf.Lists.{length-map, length-replicate, length-set}
-use Rattle.std.proofs.shelf.Tests.{cases-bool, cond-both, cond-true, cond-false, eq-eqb, eqb-true, eqb-false, ltb-true, ne-eqb}
+use Rattle.std.proofs.shelf.Tests.{cond-both, cond-true, cond-false, eq-eqb, eqb-true, eqb-false, ltb-true, ne-eqb}
 use Rattle.std.specs.Results.{isOk}
-use Rattle.std.specs.declared.option.Option.the-variants.{Some, None}
 use Rattle.std.specs.declared.result.Result.{Result}
 use Rattle.std.specs.declared.result.Result.the-variants.{Ok, Err}
-use Rattle.binary32.specs.Operations.{operationOf}
 use Rattle.binary32.specs.declared.operation.Operation.{Operation}
 use Rattle.binary32.specs.declared.word.Word.{Word}
 use Rattle.checks.specs.Examined.{Outcome}
 use Rattle.hints.specs.declared.writer.Hints.{Hints}
 use Rattle.sheet.specs.Calls.{Model, allowed, answerOf, cellsOf, closeAfter, found, opened, pendingFor, presented, settleAfterAt, settleReply, settleReplyAt, strikeAfterAt, ticketFor, withTable}
 use Rattle.sheet.specs.Cells.{cellOf, closedCell, closedState, settledState}
-use Rattle.sheet.specs.Tables.{Standing, grown, hasRoom, stateAt, standingOf, withState}
+use Rattle.sheet.specs.Tables.{grown, hasRoom, stateAt, withState}
 use Rattle.sheet.specs.Tickets.{ticketOf}
 use Rattle.sheet.specs.declared.cell.State.{State}
 use Rattle.sheet.specs.declared.cell.State.the-variants.{Free, Input, Pending, Accepted, Struck}
@@ -28,10 +25,10 @@ use Rattle.sheet.specs.declared.refusal.Refusal.{Refusal}
 use Rattle.sheet.specs.declared.refusal.Refusal.the-variants as refusal
 use Rattle.sheet.specs.declared.table.Table.{Table}
 use Rattle.sheet.specs.declared.ticket.Stub.{Stub}
-use Rattle.runs.proofs.Moves.{Kept, Waits}
-use Rattle.runs.proofs.Statuses.{Allowed, allowed-ok}
+use Rattle.runs.proofs.Moves.{Kept}
+use Rattle.runs.proofs.Statuses.{allowed-ok}
 use Rattle.runs.proofs.Tables.{after-cond, empty-free, pending-within, state-closed, state-set}
-use Rattle.runs.specs.Histories.{Claim, Event, History, Status, on-open, close, on-closed, untaken, given, pending, accepted, struck, closed-up, decided, granted, statusOf, takenIn, takes}
+use Rattle.runs.specs.Histories.{Claim, Event, History, Status, on-open, close, on-closed, untaken, given, pending, accepted, struck, closed-up, decided, statusOf, takenIn, takes}
 use Rattle.runs.specs.Replies.{openReply, pendingState, standing, stateOf, stubbed}
 use Rattle.runs.specs.Sheets.{openAfter}
 use Rattle.runs.specs.declared.answer.ClosedAnswer.{ClosedAnswer}

@@ -1,19 +1,16 @@
 -- What is known of the cells is known after one call more, and the law holds of that call.
 use Prim.Native.Nat.{ℕ, _+_, _≤_}
 use mathlib.Core.Bool.{Bool, true, false, cond}
-use mathlib.Core.List.{[], _∷_}
-use mathlib.Core.Path.{_≡_, refl, sym, ap, _∙_, subst}
-use native.Mathlib.Nat.{add-zero}
+use mathlib.Core.List.{_∷_}
+use mathlib.Core.Path.{_≡_, sym, ap, _∙_, subst}
 use native.Mathlib.Omega.{arith}
 use lib.Dec.{eqb}
 use Rattle.std.proofs.shelf.Tests.{cond-both, eqb-true}
-use Rattle.std.specs.Options.{isSome}
-use Rattle.std.specs.declared.option.Option.the-variants.{Some, None}
+use Rattle.std.specs.declared.option.Option.the-variants.{Some}
 use Rattle.std.specs.declared.result.Result.{Result}
 use Rattle.std.specs.declared.result.Result.the-variants.{Ok, Err}
 use Rattle.binary32.specs.declared.operation.Operation.{Operation}
 use Rattle.binary32.specs.declared.word.Word.{Word}
-use Rattle.hints.specs.declared.writer.Hints.{Hints}
 use Rattle.sheet.specs.Calls.{allowed, ticketFor}
 use Rattle.sheet.specs.Cells.{wordIn}
 use Rattle.sheet.specs.Tables.{hasRoom}
@@ -21,11 +18,10 @@ use Rattle.sheet.specs.declared.refusal.Refusal.{Refusal}
 use Rattle.sheet.specs.declared.refusal.Refusal.the-variants as refusal
 use Rattle.runs.proofs.Moves.{Kept, Move, Waits, moves, same, given-now, pending-now, accepted-now, struck-now, writers}
 use Rattle.runs.proofs.Statuses.{none-not-some}
-use Rattle.runs.specs.Histories.{Claim, Event, History, Status, on-open, close, on-closed, untaken, given, pending, accepted, struck, acceptedWord, cellIn, closed-up, decided, given-at, granted, pending-at, statusOf, takenIn, takes, ticketIn}
+use Rattle.runs.specs.Histories.{Claim, Event, History, Status, on-open, close, on-closed, untaken, given, pending, accepted, acceptedWord, cellIn, closed-up, decided, given-at, granted, pending-at, statusOf, takenIn, takes, ticketIn}
 use Rattle.runs.specs.Law.{Answered, Holds, Lawful, Names, Reads, Settles, Writers}
 use Rattle.runs.specs.Replies.{standing, stateOf, stubbed}
 use Rattle.runs.specs.declared.answer.ClosedAnswer.the-variants as closed-answer
-use Rattle.runs.specs.declared.answer.OpenAnswer.{OpenAnswer}
 use Rattle.runs.specs.declared.answer.OpenAnswer.the-variants as answer
 use Rattle.runs.specs.declared.call.ClosedCall.the-variants as closed-call
 use Rattle.runs.specs.declared.call.OpenCall.the-variants as call

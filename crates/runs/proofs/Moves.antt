@@ -1,38 +1,32 @@
 -- What one call, answered by the rules, makes of each cell, told by the history alone.
-use Prim.Native.Nat.{ℕ, _+_, _≤_}
+use Prim.Native.Nat.{ℕ, _≤_}
 use mathlib.Core.Bool.{Bool, true, false, cond}
-use mathlib.Core.List.{[], _∷_}
-use mathlib.Core.Logic.{inl, inr}
+use mathlib.Core.List.{_∷_}
 use mathlib.Core.Path.{_≡_, refl, sym, ap, _∙_, subst}
 use native.Mathlib.Omega.{arith}
 use lib.Dec.{eqb}
-use Rattle.std.proofs.shelf.Tests.{cases-bool, cond-both, cond-true, cond-false, eq-eqb, eqb-true, both-ways}
+use Rattle.std.proofs.shelf.Tests.{cond-both, cond-true, cond-false, eq-eqb, eqb-true, both-ways}
 use Rattle.std.specs.Results.{isOk}
-use Rattle.std.specs.declared.option.Option.{Option}
-use Rattle.std.specs.declared.option.Option.the-variants.{Some, None}
+use Rattle.std.specs.declared.option.Option.the-variants.{Some}
 use Rattle.std.specs.declared.result.Result.{Result}
 use Rattle.std.specs.declared.result.Result.the-variants.{Ok, Err}
 use Rattle.binary32.specs.Operations.{operationOf}
 use Rattle.binary32.specs.declared.operation.Operation.{Operation}
 use Rattle.binary32.specs.declared.word.Word.{Word}
-use Rattle.checks.specs.Examined.{claimOf}
-use Rattle.hints.specs.Writer.{writtenStep}
 use Rattle.hints.specs.declared.writer.Hints.{Hints}
 use Rattle.sheet.proofs.Found.{found-sound}
-use Rattle.sheet.specs.Calls.{allowed, allowedFor, answerOf, found, presented, secondWord, settleReply, settleReplyAt, ticketFor, wordAt}
-use Rattle.sheet.specs.Operands.{isRoot, claimChecked, operandChecked, operandsChecked}
-use Rattle.sheet.specs.Tables.{Standing, hasRoom}
+use Rattle.sheet.specs.Calls.{allowed, answerOf, found, presented, secondWord, settleReply, settleReplyAt, ticketFor, wordAt}
+use Rattle.sheet.specs.Operands.{isRoot, operandChecked, operandsChecked}
+use Rattle.sheet.specs.Tables.{hasRoom}
 use Rattle.sheet.specs.Tickets.{ticketOf}
-use Rattle.sheet.specs.declared.cell.State.{State}
 use Rattle.sheet.specs.declared.cell.State.the-variants.{Free, Pending}
 use Rattle.sheet.specs.declared.refusal.Refusal.{Refusal}
 use Rattle.sheet.specs.declared.refusal.Refusal.the-variants as refusal
 use Rattle.sheet.specs.declared.ticket.Stub.{Stub}
-use Rattle.runs.proofs.Statuses.{Allowed, allowed-ok, both-checked, granted-passed, none-not-some, one-checked, passed-granted, word-of}
-use Rattle.runs.specs.Histories.{Claim, Event, History, Status, on-open, close, on-closed, untaken, given, pending, accepted, struck, acceptedWord, becomes, cellIn, closed-up, decided, given-at, granted, pending-at, statusOf, takenIn, takes, ticketIn}
+use Rattle.runs.proofs.Statuses.{allowed-ok, both-checked, granted-passed, one-checked, passed-granted, word-of}
+use Rattle.runs.specs.Histories.{Claim, Event, History, Status, on-open, close, on-closed, untaken, given, pending, accepted, struck, cellIn, closed-up, decided, given-at, granted, pending-at, statusOf, takenIn, ticketIn}
 use Rattle.runs.specs.Law.{Answered, Holds, Names, Writers}
-use Rattle.runs.specs.Replies.{openReply, pendingState, standing, stateOf, stubbed}
-use Rattle.runs.specs.declared.answer.OpenAnswer.{OpenAnswer}
+use Rattle.runs.specs.Replies.{pendingState, standing, stateOf, stubbed}
 use Rattle.runs.specs.declared.answer.OpenAnswer.the-variants as answer
 use Rattle.runs.specs.declared.call.OpenCall.the-variants as call
 

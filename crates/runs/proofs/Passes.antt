@@ -1,8 +1,8 @@
 -- A step with the writer's word and hints is accepted on every sheet.
 use Prim.Native.Nat.{ℕ}
-use mathlib.Core.Bool.{Bool, true, false, cond}
+use mathlib.Core.Bool.{cond}
 use mathlib.Core.List.{[], _∷_}
-use mathlib.Core.Path.{_≡_, refl, sym, ap, _∙_, subst}
+use mathlib.Core.Path.{_≡_, refl, sym, ap, _∙_}
 use lib.Dec.{eqb}
 use Rattle.std.proofs.shelf.Tests.{cond-true, eq-eqb}
 use Rattle.std.specs.declared.option.Option.the-variants.{Some}
@@ -11,19 +11,17 @@ use Rattle.binary32.specs.Operations.{codeOf, operationOf}
 use Rattle.binary32.specs.declared.operation.Operation.{Operation}
 use Rattle.binary32.specs.declared.operation.Operation.the-variants.{Add, Subtract, Multiply, Divide, SquareRoot, Equal, Less, AtMost}
 use Rattle.binary32.specs.declared.word.Word.{Word}
-use Rattle.checks.specs.Examined.{claimOf}
 use Rattle.hints.specs.Writer.{writtenStep}
 use Rattle.hints.specs.declared.writer.Written.{Written}
 use Rattle.sheet.proofs.Found.{found-sound}
 use Rattle.sheet.specs.Calls.{Model, answerOf, cellsOf, found, opened, secondWord, settleReplyAt}
-use Rattle.sheet.specs.Tables.{Standing}
 use Rattle.sheet.specs.declared.cell.State.the-variants.{Free, Input, Pending}
-use Rattle.runs.proofs.Follows.{Follows, stand-alike}
-use Rattle.runs.proofs.Reaches.{Known, known-reached}
-use Rattle.runs.specs.Histories.{Claim, History, on-open, accepted, decided, pending, struck, statusOf}
-use Rattle.runs.specs.Honest.{Honest, claimIn, passing, third}
+use Rattle.runs.proofs.Follows.{stand-alike}
+use Rattle.runs.proofs.Reaches.{known-reached}
+use Rattle.runs.specs.Histories.{History, on-open, accepted, pending}
+use Rattle.runs.specs.Honest.{Honest, claimIn, third}
 use Rattle.runs.specs.Replies.{openReply, pendingState, standing}
-use Rattle.runs.specs.Sheets.{Reached, Sheet, is-open, openAfter}
+use Rattle.runs.specs.Sheets.{Reached, is-open, openAfter}
 use Rattle.runs.specs.declared.answer.OpenAnswer.{OpenAnswer}
 use Rattle.runs.specs.declared.answer.OpenAnswer.the-variants as answer
 use Rattle.runs.specs.declared.call.OpenCall.{OpenCall}

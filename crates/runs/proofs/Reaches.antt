@@ -7,8 +7,8 @@ use Rattle.sheet.specs.Calls.{Model, cellsOf, opened}
 use Rattle.runs.proofs.Follows.{Follows, follows-opened, follows-open, follows-close, follows-closed, stand-alike}
 use Rattle.runs.proofs.Keeps.{kept-more, lawful-more}
 use Rattle.runs.proofs.Moves.{Kept}
-use Rattle.runs.specs.Histories.{Claim, Event, History, on-open, close, on-closed, untaken, pending, accepted}
-use Rattle.runs.specs.Law.{Answered, Law, Lawful}
+use Rattle.runs.specs.Histories.{Event, History, on-open, close, on-closed}
+use Rattle.runs.specs.Law.{Answered, Law}
 use Rattle.runs.specs.Replies.{openReply, closedReply, standing}
 use Rattle.runs.specs.Sheets.{Binding, Reached, Sheet, Step, is-open, is-closed, openAfter}
 use Rattle.runs.specs.declared.answer.ClosedAnswer.{ClosedAnswer}

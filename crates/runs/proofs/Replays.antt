@@ -1,11 +1,11 @@
 -- The loops of a replay, and what its answers say.
 use Prim.Native.Nat.{ℕ, suc, _+_, _<_}
-use mathlib.Core.List.{List, [], _∷_, _++_, append-assoc, append-nil, map}
+use mathlib.Core.List.{List, [], _∷_, _++_, append-assoc, map}
 use mathlib.Core.Path.{_≡_, refl, sym, ap, _∙_, subst}
 use lib.ListN.{length, getD, drop}
 use mathlib.Core.Bool.{true}
 use native.Mathlib.Omega.{arith}
-use Rattle.std.proofs.shelf.Lists.{drop-more, drop-all, length-map}
+use Rattle.std.proofs.shelf.Lists.{drop-more, length-map}
 use Rattle.std.specs.Of.Vec.{vec-items}
 use Rattle.std.specs.Results.{isErr}
 use Rattle.std.specs.declared.alloc.AllocError.{AllocError}
@@ -22,7 +22,7 @@ use Rattle.runs.specs.Met.{answersFrom, afterAll, closedAnswers, laterAnswers}
 use Rattle.runs.specs.Replies.{openReply, closedReply}
 use Rattle.runs.specs.Rooms.{countOf}
 use Rattle.runs.specs.Runs.{Alike, LawOfRuns, Obeys, historyOf, met, metClosed, unnumbered}
-use Rattle.runs.specs.Sheets.{Reached, Sheet, is-open, is-closed, openAfter}
+use Rattle.runs.specs.Sheets.{Reached, is-open, is-closed, openAfter}
 use Rattle.runs.specs.declared.answer.ClosedAnswer.{ClosedAnswer}
 use Rattle.runs.specs.declared.answer.OpenAnswer.{OpenAnswer}
 use Rattle.runs.specs.declared.call.ClosedCall.{ClosedCall}

@@ -1,7 +1,7 @@
 -- Facts about how one cell stands.
 use Prim.Native.Nat.{ℕ}
 use mathlib.Core.Bool.{Bool, true, false, cond}
-use mathlib.Core.Path.{_≡_, refl, sym, ap, _∙_, subst}
+use mathlib.Core.Path.{_≡_, refl, ap, subst}
 use native.Mathlib.Omega.{arith}
 use Rattle.std.specs.Results.{isOk}
 use Rattle.std.specs.declared.option.Option.{Option}
@@ -12,13 +12,10 @@ use Rattle.binary32.specs.Operations.{operationOf}
 use Rattle.binary32.specs.declared.operation.Operation.{Operation}
 use Rattle.binary32.specs.declared.word.Word.{Word}
 use Rattle.checks.specs.Examined.{Outcome}
-use Rattle.sheet.specs.Calls.{allowed, allowedFor, allowedIf, answerOf}
+use Rattle.sheet.specs.Calls.{allowedFor, allowedIf, answerOf}
 use Rattle.sheet.specs.Cells.{Checked, takenIn, acceptedIn, before, wordOrZero}
-use Rattle.sheet.specs.Operands.{isRoot, claimChecked, operandChecked, operandsChecked}
+use Rattle.sheet.specs.Operands.{claimChecked, operandChecked, operandsChecked}
 use Rattle.sheet.specs.Tables.{Standing, hasRoom}
-use Rattle.sheet.specs.declared.cell.State.{State}
-use Rattle.sheet.specs.declared.cell.State.the-variants.{Free, Input, Pending, Accepted, Struck}
-use Rattle.sheet.specs.declared.refusal.Refusal.{Refusal}
 use Rattle.sheet.specs.declared.refusal.Refusal.the-variants as refusal
 use Rattle.runs.specs.Histories.{Claim, Status, untaken, given, pending, accepted, struck, acceptedWord}
 use Rattle.runs.specs.Replies.{pendingState, stateOf}

@@ -2,8 +2,7 @@
 use Prim.Native.Nat.{ℕ, _<_}
 use mathlib.Core.Bool.{Bool, true, false, cond}
 use mathlib.Core.List.{map}
-use mathlib.Core.Logic.{inl, inr}
-use mathlib.Core.Path.{_≡_, refl, sym, ap, _∙_}
+use mathlib.Core.Path.{_≡_, refl, ap, _∙_}
 use native.Mathlib.Omega.{arith}
 use lib.Dec.{eqb, ltb}
 use lib.ListN.{length, getD, set, replicate}
@@ -13,7 +12,6 @@ use Rattle.binary32.specs.declared.operation.Operation.{Operation}
 use Rattle.binary32.specs.declared.word.Word.{Word}
 use Rattle.sheet.specs.Cells.{cellOf, closedCell, closedState}
 use Rattle.sheet.specs.Tables.{emptyTable, stateAt, closedTable}
-use Rattle.sheet.specs.declared.cell.Cell.{Cell}
 use Rattle.sheet.specs.declared.cell.State.{State}
 use Rattle.sheet.specs.declared.cell.State.the-variants.{Free, Pending}
 use Rattle.sheet.specs.declared.table.Table.{Table}

@@ -15,7 +15,7 @@ use Rattle.checks.specs.declared.flaw.Flaw.the-variants as flaw
 use Rattle.hints.specs.declared.writer.Hints.{Hints}
 use Rattle.sheet.specs.Cells.{Checked, wordIn, wordOrZero, settledState}
 use Rattle.sheet.specs.Operands.{isRoot, claimChecked}
-use Rattle.sheet.specs.Tables.{Standing, emptyTable, stateAt, standingOf, withState, hasRoom, grown, closedTable}
+use Rattle.sheet.specs.Tables.{Standing, emptyTable, standingOf, withState, hasRoom, grown, closedTable}
 use Rattle.sheet.specs.declared.cell.State.{State}
 use Rattle.sheet.specs.declared.cell.State.the-variants.{Free, Input, Pending, Accepted, Struck}
 use Rattle.sheet.specs.declared.closed.ClosedSheet.{ClosedSheet}

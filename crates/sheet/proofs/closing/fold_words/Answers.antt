@@ -1,5 +1,5 @@
 use Prim.Native.Nat.{_%_}
-use mathlib.Core.Path.{sym, ap, subst, _∙_}
+use mathlib.Core.Path.{sym, ap, _∙_}
 use Rattle.sheet.proofs.Folds.{fold-none, fold-more}
 use Rattle.sheet.specs.Closing.{foldFrom, wordsBelow, wordsOf}
 use Rattle.sheet.specs.Tables.{standingOf}

@@ -1,5 +1,5 @@
 -- The remainders of the total and the weight may be multiplied in place of the numbers.
-use Prim.Native.Nat.{_+_, _*_, _%_}
+use Prim.Native.Nat.{_*_}
 use Rattle.systems.proofs.Remainders.{product-mod, sum-mod}
 use Rattle.sheet.proofs.closing.with_word.Needs as need
 
