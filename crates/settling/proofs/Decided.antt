@@ -1,7 +1,6 @@
 -- A claim on a sheet that has two inputs and nothing else.
 use Prim.Native.Nat.{ℕ}
 use mathlib.Core.Path.{_≡_, refl, sym, ap, subst, _∙_}
-use mathlib.Core.Bool.{true, false}
 use native.Mathlib.Omega.{arith}
 use lib.Dec.{eqb}
 use Rattle.std.specs.Results.{isOk}
@@ -24,17 +23,17 @@ use Rattle.sheet.specs.declared.refusal.Refusal.{Refusal}
 use Rattle.sheet.specs.declared.ticket.Ticket.{Ticket}
 use Rattle.settling.specs.Claimed.{isAccepted}
 
-abbrev pub withInputs : Word → Word → Model
+abbrev withInputs : Word → Word → Model
 withInputs a b = inputAfter (inputAfter (opened 0 0) a) b
 
-abbrev pub ticket : Ticket
+abbrev ticket : Ticket
 ticket = record { serial = 0; cell = 2 }
 
 -- the claim is allowed
 abbrev Allowed : Operation → Word → Word → Type 0
 Allowed op a b = enterReply 0 (cellsOf (withInputs a b)) (codeOf op) 0 1 ≡ Ok ticket
 
-pub allowed : (op : Operation) (a b : Word) → Allowed op a b
+allowed : (op : Operation) (a b : Word) → Allowed op a b
 allowed Add a b = refl
 allowed Subtract a b = refl
 allowed Multiply a b = refl
