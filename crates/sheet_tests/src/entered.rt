@@ -9,10 +9,8 @@ use binary32::WordDebug;
 use binary32::WordPartialEq;
 use hints::Hints;
 use sheet::OpenSheet;
-use sheet::Refusal;
 use sheet::RefusalDebug;
 use sheet::RefusalPartialEq;
-use sheet::Ticket;
 use std::test::*;
 use systems::Pair;
 use systems::PairSystem;
@@ -68,23 +66,24 @@ fn cells_not_taken<S: System>(system: S) -> Result<(), Fail> {
     tells(sheet.read(256).err(), 3, 1, 0, "sheet")
 }
 
-// Cell 2 is struck, cell 3 pending. That a cell is not taken comes before that one is not accepted.
-fn cells_not_accepted<S: System>(system: S) -> Result<(), Fail> {
+// That a cell is not taken comes before that one is not accepted.
+fn cells_struck<S: System>(system: S) -> Result<(), Fail> {
     let mut sheet = started(system, 1)?;
     let ticket = sheet.enter(1, 0, 1, TWO)?;
     check_eq(sheet.strike(ticket), Ok(2))?;
-    let ticket = sheet.enter(1, 0, 1, TWO)?;
-    let struck = refused(&mut sheet, 1, 2, 3);
-    let pending = refused(&mut sheet, 1, 0, 3);
-    let missing = refused(&mut sheet, 1, 2, 4);
-    let read = sheet.read(3);
-    let settled = sheet.settle(ticket, TWICE_ONE);
-    check_eq(settled, Ok(3))?;
-    tells(struck, 4, 1, 0, "sheet")?;
-    tells(pending, 4, 2, 0, "sheet")?;
-    tells(missing, 3, 2, 0, "sheet")?;
-    tells(read.err(), 4, 1, 0, "sheet")?;
+    tells(refused(&mut sheet, 1, 2, 2), 4, 1, 0, "sheet")?;
+    tells(refused(&mut sheet, 1, 2, 300), 3, 2, 0, "sheet")?;
     tells(sheet.read(2).err(), 4, 1, 0, "sheet")
+}
+
+fn cells_pending<S: System>(system: S) -> Result<(), Fail> {
+    let mut sheet = started(system, 1)?;
+    let ticket = sheet.enter(1, 0, 1, TWO)?;
+    let entered = refused(&mut sheet, 1, 0, 2);
+    let read = sheet.read(2);
+    check_eq(sheet.settle(ticket, TWICE_ONE), Ok(2))?;
+    tells(entered, 4, 2, 0, "sheet")?;
+    tells(read.err(), 4, 1, 0, "sheet")
 }
 
 // The root of 2 = 3FB504F3, with a second cell that does not exist; a quotient looks at its second cell.
@@ -125,8 +124,10 @@ fn codes() -> Result<(), Fail> {
 fn operands() -> Result<(), Fail> {
     cells_not_taken(Wrapping)?;
     cells_not_taken(Pair)?;
-    cells_not_accepted(Wrapping)?;
-    cells_not_accepted(Pair)
+    cells_struck(Wrapping)?;
+    cells_struck(Pair)?;
+    cells_pending(Wrapping)?;
+    cells_pending(Pair)
 }
 
 #[test]

@@ -4,10 +4,12 @@ use crate::figures::TWO;
 use crate::figures::settle_twice_one;
 use crate::figures::started;
 use crate::figures::tells;
+use binary32::Word;
 use binary32::WordDebug;
 use binary32::WordPartialEq;
 use hints::Hints;
 use sheet::OpenSheet;
+use sheet::Refusal;
 use sheet::RefusalDebug;
 use sheet::RefusalPartialEq;
 use sheet::Stub;
@@ -29,26 +31,42 @@ fn is_bad<S: System>(sheet: &mut OpenSheet<S>, serial: u32, cell: u64) -> Result
     tells(struck.err(), 5, 0, 0, "sheet")
 }
 
-fn spent<S: System>(system: S) -> Result<(), Fail> {
+fn spent_by_settling<S: System>(system: S) -> Result<(), Fail> {
     let mut sheet = started(system, 1)?;
     check_eq(settle_twice_one(&mut sheet)?, 2)?;
     is_bad(&mut sheet, 7, 2)?;
-    check_eq(sheet.read(2), Ok(TWO))?;
+    check_eq(sheet.read(2), Ok(TWO))
+}
+
+// Main is 0, so that no lift takes it up to bit 50.
+fn spent_by_a_refusal<S: System>(system: S) -> Result<(), Fail> {
+    let mut sheet = started(system, 1)?;
     let ticket = sheet.enter(1, 0, 1, TWO)?;
-    check_eq(sheet.settle(ticket, Hints::NONE).is_ok(), false)?;
-    is_bad(&mut sheet, 7, 3)?;
+    let reply = sheet.settle(ticket, Hints::NONE);
+    check_eq(reply, Err(Refusal::Width { cell: 2, hint: 3 }))?;
+    is_bad(&mut sheet, 7, 2)
+}
+
+fn spent_by_striking<S: System>(system: S) -> Result<(), Fail> {
+    let mut sheet = started(system, 1)?;
     let ticket = sheet.enter(1, 0, 1, TWO)?;
-    check_eq(sheet.strike(ticket), Ok(4))?;
-    is_bad(&mut sheet, 7, 4)
+    check_eq(sheet.strike(ticket), Ok(2))?;
+    is_bad(&mut sheet, 7, 2)
+}
+
+fn presented_again<S: System>(system: S) -> Result<(), Fail> {
+    spent_by_settling(system)?;
+    spent_by_a_refusal(system)?;
+    spent_by_striking(system)
 }
 
 // A ticket of another serial, of an input, of a cell that is not taken and of a number that no cell has; the claim stays
 // pending, and a ticket made of its two numbers settles it.
 fn of_another_cell<S: System>(system: S) -> Result<(), Fail> {
     let mut sheet = started(system, 1)?;
-    let mut closed = OpenSheet::new(7, 1, system).close();
+    let counter = OpenSheet::new(9, 1, system).close();
     let ticket = sheet.enter(1, 0, 1, TWO)?;
-    let stub = closed.hand_in(ticket);
+    let stub = counter.hand_in(ticket);
     check_eq(stub, Stub { serial: 7, cell: 2 })?;
     is_bad(&mut sheet, 8, 2)?;
     is_bad(&mut sheet, 7, 1)?;
@@ -75,14 +93,14 @@ fn handed_in<S: System>(system: S) -> Result<(), Fail> {
             cell: 300,
         },
     )?;
-    check_eq(sheet.read(1), Ok(binary32::Word::ONE))?;
+    check_eq(sheet.read(1), Ok(Word::ONE))?;
     tells(sheet.read(3).err(), 3, 1, 0, "sheet")
 }
 
 #[test]
 fn again() -> Result<(), Fail> {
-    spent(Wrapping)?;
-    spent(Pair)
+    presented_again(Wrapping)?;
+    presented_again(Pair)
 }
 
 #[test]
