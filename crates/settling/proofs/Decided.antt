@@ -29,7 +29,7 @@ withInputs a b = inputAfter (inputAfter (opened 0 0) a) b
 abbrev ticket : Ticket
 ticket = record { serial = 0; cell = 2 }
 
--- the claim is allowed
+-- a claim on the two inputs is allowed, and has the third cell
 abbrev Allowed : Operation → Word → Word → Type 0
 Allowed op a b = enterReply 0 (cellsOf (withInputs a b)) (codeOf op) 0 1 ≡ Ok ticket
 
@@ -56,6 +56,7 @@ module _ (a b word : Word) (hints : Hints) where
       Right (claimed op) ticket hints (reply op) → hints ≡ writtenStep op (a .bits) (b .bits) .hints →
       isOk (reply op) ≡ eqb (word .bits) (result op (a .bits) (b .bits))
 
+  -- from what settling ensures of the reply
   decided : (outcome : Outcome) (x : ℕ) (h : Hints) →
       (answerOf 2 outcome ≡ Ok 2 → claimOf word hints ≡ record { word = record { bits = x }; hints = h })
       × (claimOf word hints ≡ record { word = record { bits = x }; hints = h } → answerOf 2 outcome ≡ Ok 2) →
@@ -83,10 +84,19 @@ module _ (m0 m1 m2 : Model) (step : Request) (code first second : ℕ)
     (is-first : Ok first ≡ inputReply (cellsOf m0)) (after-first : m1 ≡ inputAfter m0 (step .first))
     (is-second : Ok second ≡ inputReply (cellsOf m1)) (after-second : m2 ≡ inputAfter m1 (step .second))
     (is-code : code ≡ codeOf (step .operation)) where
+  abbrev op : Operation
+  op = step .operation
+
+  abbrev inputs : Model
+  inputs = withInputs (step .first) (step .second)
+
+  abbrev claim : Word → Hints → Model
+  claim word hints = claimed (step .first) (step .second) word hints op
+
   one-input : m1 ≡ inputAfter (opened 0 0) (step .first)
   one-input = after-first ∙ ap (λ m. inputAfter m (step .first)) empty
 
-  two-inputs : m2 ≡ withInputs (step .first) (step .second)
+  two-inputs : m2 ≡ inputs
   two-inputs = after-second ∙ ap (λ m. inputAfter m (step .second)) one-input
 
   first-is : first ≡ 0
@@ -95,24 +105,24 @@ module _ (m0 m1 m2 : Model) (step : Request) (code first second : ℕ)
   second-is : second ≡ 1
   second-is = let same : _≡_ {A = Result ℕ Refusal} (Ok second) (Ok 1) = is-second ∙ ap (λ m. inputReply (cellsOf m)) one-input in cc
 
-  -- the claim is allowed
+  -- so the claim is allowed
   entered : (r : Result Ticket Refusal) → r ≡ enterReply (m2 .serial) (cellsOf m2) code first second → r ≡ Ok ticket
   entered r is =
       is ∙ ap (λ m. enterReply (m .serial) (cellsOf m) code first second) two-inputs
-      ∙ ap (λ n. enterReply 0 (cellsOf (withInputs (step .first) (step .second))) n first second) is-code
-      ∙ ap (λ n. enterReply 0 (cellsOf (withInputs (step .first) (step .second))) (codeOf (step .operation)) n second) first-is
-      ∙ ap (λ n. enterReply 0 (cellsOf (withInputs (step .first) (step .second))) (codeOf (step .operation)) 0 n) second-is
-      ∙ allowed (step .operation) (step .first) (step .second)
+      ∙ ap (λ n. enterReply 0 (cellsOf inputs) n first second) is-code
+      ∙ ap (λ n. enterReply 0 (cellsOf inputs) (codeOf op) n second) first-is
+      ∙ ap (λ n. enterReply 0 (cellsOf inputs) (codeOf op) 0 n) second-is
+      ∙ allowed op (step .first) (step .second)
 
   pub not-refused : (r : Result Ticket Refusal) (e : Refusal) → r ≡ enterReply (m2 .serial) (cellsOf m2) code first second → r ≡ Err e → ⊥
   not-refused r e is was = let same : Err e ≡ Ok ticket = sym was ∙ entered r is in let z : _≡_ {A = ℕ} 0 1 = cc in omega arith
 
-  entered-after : (word : Word) → enterAfter m2 code first second word ≡ enterAfter (withInputs (step .first) (step .second)) (codeOf (step .operation)) 0 1 word
+  entered-after : (word : Word) → enterAfter m2 code first second word ≡ enterAfter inputs (codeOf op) 0 1 word
   entered-after word =
       ap (λ m. enterAfter m code first second word) two-inputs
-      ∙ ap (λ n. enterAfter (withInputs (step .first) (step .second)) n first second word) is-code
-      ∙ ap (λ n. enterAfter (withInputs (step .first) (step .second)) (codeOf (step .operation)) n second word) first-is
-      ∙ ap (λ n. enterAfter (withInputs (step .first) (step .second)) (codeOf (step .operation)) 0 n word) second-is
+      ∙ ap (λ n. enterAfter inputs n first second word) is-code
+      ∙ ap (λ n. enterAfter inputs (codeOf op) n second word) first-is
+      ∙ ap (λ n. enterAfter inputs (codeOf op) 0 n word) second-is
 
   -- what settling it says
   pub settles : (word : Word) (m3 : Model) (t : Ticket) (hints : Hints) (r : Result ℕ Refusal) →
@@ -125,9 +135,9 @@ module _ (m0 m1 m2 : Model) (step : Request) (code first second : ℕ)
       let presents : t ≡ ticket = (let same = entered (Ok t) is-ticket in cc) in
       let r-is =
       is ∙ ap (λ m. settleReply (m .serial) (cellsOf m) t hints) pending
-      ∙ ap (λ u. settleReply 0 (cellsOf (claimed (step .first) (step .second) word hints (step .operation))) u hints) presents in
+      ∙ ap (λ u. settleReply 0 (cellsOf (claim word hints)) u hints) presents in
       let right-there =
-      subst (λ (x : Result ℕ Refusal). Right (claimed (step .first) (step .second) word hints (step .operation)) ticket hints x) r-is
-      (subst (λ (u : Ticket). Right (claimed (step .first) (step .second) word hints (step .operation)) u hints r) presents
+      subst (λ (x : Result ℕ Refusal). Right (claim word hints) ticket hints x) r-is
+      (subst (λ (u : Ticket). Right (claim word hints) u hints r) presents
       (subst (λ (m : Model). Right m t hints r) pending right)) in
-      ap isOk r-is ∙ decides (step .first) (step .second) word hints (step .operation) right-there hints-are
+      ap isOk r-is ∙ decides (step .first) (step .second) word hints op right-there hints-are
