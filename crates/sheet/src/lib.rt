@@ -6,8 +6,6 @@ mod opened;
 mod operands;
 mod refusal;
 mod table;
-#[cfg(test)]
-mod tests;
 mod ticket;
 
 pub use cell::Cell;

@@ -17,3 +17,4 @@ pub use vector::read_vector;
 pub use verdict::Verdict;
 pub use verdict::VerdictDisplay;
 pub use verdict::judge;
+pub use verdict::meant_by;

@@ -26,7 +26,7 @@ pub enum Verdict {
 }
 
 // Any expected NaN stands for the one word that every NaN result is.
-fn meant_by(expected: Word) -> Word
+pub fn meant_by(expected: Word) -> Word
     ensures { λ r. ⌜ r ≡ meantBy expected ⌝ }
 {
     if expected.magnitude() > Word::INFINITY.bits {

@@ -1,0 +1,2 @@
+pub mod Claimed
+pub mod Counts
