@@ -1,0 +1,4 @@
+pub mod Claims
+pub mod Counts
+pub mod Findings
+pub mod Requests
