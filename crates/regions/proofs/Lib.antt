@@ -1,1 +1,2 @@
 mod Plans
+mod Shows

@@ -98,6 +98,9 @@ abbrev pub inputsOf : Request → List OpenCall
 inputsOf q =
     Input (q .position .x) ∷ Input (q .position .y) ∷ Input (q .centre .x) ∷ Input (q .centre .y) ∷ Input (q .radius) ∷ []
 
--- the five words, the seven claims, and at last the word of the comparison
+-- the five words, the claims, and at last the word of the comparison
+unfoldable pub callsOf : Request → ℕ → List Claim → List OpenCall
+callsOf q serial claims = inputsOf q ++ (callsFor serial claims ++ (Read 11 ∷ []))
+
 abbrev pub planOf : Request → ℕ → List OpenCall
-planOf q serial = inputsOf q ++ (callsFor serial (claimsOf q) ++ (Read 11 ∷ []))
+planOf q serial = callsOf q serial (claimsOf q)
