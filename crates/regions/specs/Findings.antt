@@ -1,7 +1,8 @@
 -- What the answers of two sheets to the calls of a request say.
 use Prim.Native.Nat.{ℕ, _+_}
-use mathlib.Core.Bool.{cond}
+use mathlib.Core.Bool.{Bool, cond}
 use mathlib.Core.List.{List, [], _∷_}
+use mathlib.Core.Path.{_≡_}
 use lib.Dec.{eqb}
 use lib.ListN.{getD}
 use Rattle.std.specs.Of.Vec.{vec-items}
@@ -85,11 +86,17 @@ closingOf [] = None
 closingOf (answer ∷ []) = numberIn answer
 closingOf (answer ∷ another ∷ answers) = None
 
-abbrev pub reportOf : Request → Replayed → Report
-reportOf q r = record {
+-- the open sheets gave the same answers
+abbrev pub Agreed : Replayed → Type 0
+Agreed r = vec-items (r .first .opened) ≡ vec-items (r .second .opened)
+
+-- outcomes and verdict are by the answers of the first sheet
+abbrev pub reportOf : Request → Replayed → Bool → Report
+reportOf q r agree = record {
   request = q;
   claims = claimsOf q;
   outcomes = outcomesOf (vec-items (r .first .opened));
+  agree = agree;
   verdict = verdictOn (answerAt (vec-items (r .first .opened)) 19);
   «first_closing» = closingOf (vec-items (r .first .closed));
   «second_closing» = closingOf (vec-items (r .second .closed));

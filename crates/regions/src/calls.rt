@@ -65,8 +65,7 @@ fn laid_out(request: Request, serial: u32, claims: [Claim; 7]) -> [OpenCall; 20]
 fn shows(request: Request, serial: u32, calls: [OpenCall; 20])
     requires { ⌜ calls ≡ planOf request serial ⌝ }
     ensures { λ _. ⌜ Shows request serial calls ⌝ }
-{
-}
+{}
 
 // The calls for a request on a sheet with this serial. The comparison that they enter is of the distance with the radius, and a
 // forged root is not settled as the writer would settle it.

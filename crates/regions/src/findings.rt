@@ -1,8 +1,9 @@
 // What the answers of two sheets to the calls of a request say.
 ghost use mathlib.Core.Path.{_≡_};
 ghost use Prim.Native.Nat.{_+_, _<_};
-ghost use Rattle.std.specs.Of.Vec.{vec-items};
-ghost use Rattle.regions.specs.Findings.{answerAt, onceSettled, becameBy, outcomeFrom, outcomesOf, verdictOn, closingOf, reportOf};
+ghost use Rattle.std.specs.Orderings.{Decides};
+ghost use Rattle.regions.specs.Findings.{answerAt, onceSettled, becameBy, outcomeFrom, outcomesOf, verdictOn, closingOf, Agreed, reportOf};
+use crate::agree::same_answers;
 use crate::claims::Claim;
 use crate::claims::claims_of;
 use crate::reading::Request;
@@ -36,6 +37,8 @@ pub struct Report {
     pub request: Request,
     pub claims: [Claim; 7],
     pub outcomes: [Outcome; 7],
+    // Whether both sheets gave the same answers while they were open.
+    pub agree: bool,
     pub verdict: Verdict,
     // That of the sheet over each system, if there is one.
     pub first_closing: Option<u64>,
@@ -120,15 +123,18 @@ fn closing(answers: &[ClosedAnswer]) -> Option<u64>
     }
 }
 
-// What the sheets' answers to the calls of a request say of it.
+// What the sheets' answers to the calls of a request say of it. Outcomes and verdict are by those of the first sheet.
 pub fn report_on(request: Request, replayed: &Replayed) -> Report
-    ensures { λ r. ⌜ r ≡ reportOf request (now (replayed .entry)) ⌝ }
+    ensures value { λ r. ⌜ r ≡ reportOf request (now (replayed .entry)) (r .agree) ⌝ }
+    ensures agree { λ r. ⌜ Decides (r .agree) (Agreed (now (replayed .entry))) ⌝ }
 {
+    let answers = &replayed.first.opened;
     Report {
         request,
         claims: claims_of(request),
-        outcomes: outcomes(&replayed.first.opened),
-        verdict: verdict_on(answer_at(&replayed.first.opened, 19)),
+        outcomes: outcomes(answers),
+        agree: same_answers(answers, &replayed.second.opened),
+        verdict: verdict_on(answer_at(answers, 19)),
         first_closing: closing(&replayed.first.closed),
         second_closing: closing(&replayed.second.closed),
     }

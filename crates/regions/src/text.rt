@@ -84,13 +84,15 @@ impl fmt::Display for Verdict as VerdictDisplay {
     }
 }
 
+// A closing number in sixteen digits.
 fn write_closing<W: fmt::Write>(number: Option<u64>, f: &mut fmt::Formatter<W>) -> fmt::Result {
     match number {
-        Some(number) => write!(f, " {number:016X}"),
-        None => write!(f, " none"),
+        Some(number) => write!(f, "{number:016X}"),
+        None => write!(f, "none"),
     }
 }
 
+// The request, its steps, whether the sheets agree, their closing numbers and the verdict, each on a line.
 pub impl fmt::Display for Report as ReportDisplay {
     fn fmt<W: fmt::Write>(&self, f: &mut fmt::Formatter<W>) -> fmt::Result {
         let request = self.request;
@@ -98,10 +100,17 @@ pub impl fmt::Display for Report as ReportDisplay {
         for (claim, outcome) in self.claims.iter().zip(self.outcomes.iter()) {
             writeln!(f, "  {claim}, {outcome}")?;
         }
-        let verdict = self.verdict;
-        write!(f, "  {verdict}, closing numbers")?;
+        let answers = if self.agree {
+            "both sheets gave the same answers"
+        } else {
+            "the sheets gave other answers"
+        };
+        write!(f, "  {answers}\n  closing numbers ")?;
         write_closing(self.first_closing, f)?;
-        write_closing(self.second_closing, f)
+        write!(f, " and ")?;
+        write_closing(self.second_closing, f)?;
+        let verdict = self.verdict;
+        write!(f, "\n  {verdict}")
     }
 }
 
