@@ -31,7 +31,7 @@ claimed cell operation first second = record {
   written = writtenStep operation (first .word .bits) (second .word .bits);
 }
 
--- up is 0 for 1, and 1 for any other
+-- up is 1 for 0, and 0 for any other
 abbrev pub turned : Hints → Hints
 turned h = record {
   main = h .main;

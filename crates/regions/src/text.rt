@@ -103,7 +103,7 @@ pub impl fmt::Display for Report as ReportDisplay {
         let answers = if self.agree {
             "both sheets gave the same answers"
         } else {
-            "the sheets gave other answers"
+            "the sheets gave different answers"
         };
         write!(f, "  {answers}\n  closing numbers ")?;
         write_closing(self.first_closing, f)?;
