@@ -1,12 +1,16 @@
 // Reads requests from standard input, one to a line, and prints for each the steps that show whether the position lies in the region,
 // what became of them on the sheets, and the verdict. A line that is no request is reported by its number. The last line says how
 // many lines there were of each kind.
+mod text;
+
+use crate::text::ReportText;
+use crate::text::ReportTextDisplay;
+use crate::text::TallyText;
+use crate::text::TallyTextDisplay;
 use notation::FaultDisplay;
 use regions::Report;
-use regions::ReportDisplay;
 use regions::Request;
 use regions::Tally;
-use regions::TallyDisplay;
 use regions::plan;
 use regions::read_request;
 use regions::report_on;
@@ -49,7 +53,8 @@ fn main(rt: LibcRuntime) -> io::Result<()> {
         match read_request(&line) {
             Ok(request) => {
                 let report = show(rt.alloc(), number, request)?;
-                println!(rt, "line {number}: {report}")?;
+                let text = ReportText(report);
+                println!(rt, "line {number}: {text}")?;
                 tally.count(Some(report.verdict));
             }
             Err(fault) => {
@@ -58,5 +63,6 @@ fn main(rt: LibcRuntime) -> io::Result<()> {
             }
         }
     }
-    println!(rt, "{tally}")
+    let text = TallyText(tally);
+    println!(rt, "{text}")
 }

@@ -6,9 +6,9 @@ mod claims;
 mod count;
 mod findings;
 mod reading;
-mod text;
 
 pub use calls::plan;
+pub use claims::Claim;
 pub use count::Tally;
 pub use findings::Outcome;
 pub use findings::Report;
@@ -17,5 +17,3 @@ pub use findings::report_on;
 pub use reading::Point;
 pub use reading::Request;
 pub use reading::read_request;
-pub use text::ReportDisplay;
-pub use text::TallyDisplay;
