@@ -26,7 +26,7 @@ use systems::PairSystem;
 use systems::Wrapping;
 use systems::WrappingSystem;
 
-// The weight of the closing numbers, 2^32: a word below another one.
+// The weight of the closing numbers: 2^32, one more than the largest word.
 const WEIGHT: u64 = 0x1_0000_0000;
 
 // The request on a sheet over each system.
