@@ -73,6 +73,14 @@ fn class_of(field: u32, fraction: u32) -> Class
     }
 }
 
+// What a word stands for, by its exponent field and its fraction.
+fn classified(word: Word) -> Class
+    ensures value { λ r. ⌜ r ≡ classOf (word .bits) ⌝ }
+    ensures sized { λ r. ⌜ Sized r (size (magnitudeOf (word .bits))) ⌝ }
+{
+    class_of(word.exponent_field(), word.fraction())
+}
+
 impl Word {
     // The word that every NaN result is.
     pub const NAN: Word = Word { bits: 0x7fc0_0000 };
@@ -116,7 +124,7 @@ impl Word {
         ensures value { λ r. ⌜ r ≡ classOf (self .bits) ⌝ }
         ensures sized { λ r. ⌜ Sized r (size (magnitudeOf (self .bits))) ⌝ }
     {
-        class_of(self.exponent_field(), self.fraction())
+        classified(self)
     }
 
     // The word with this sign and the low 31 bits of `magnitude`.
