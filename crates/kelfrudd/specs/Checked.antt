@@ -54,7 +54,7 @@ abbrev pub tooFew : ℕ → ℕ → Bool
 tooFew places hints = ltb places 1 || ltb hints 6
 
 abbrev pub numberFound : Option Finding → ℕ
-numberFound None = 102
+numberFound None = 103
 numberFound (Some found) = found .number
 
 abbrev pub checkedNumber : ℕ → ℕ → Option Finding → ℕ
