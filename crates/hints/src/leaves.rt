@@ -28,7 +28,8 @@ pub(crate) fn quotient(dividend: u64, divisor: u64) -> (u64, u64)
     (dividend / divisor, dividend % divisor)
 }
 
-// The same, bit by bit from the highest: `rest` is always the radicand less the square of the root so far.
+// The whole square root and what it leaves over, bit by bit from the highest: `rest` is always the radicand less the square of the
+// root so far.
 fn root_by_bits(radicand: u64) -> (u64, u64)
     requires { ⌜ radicand < 2 ^ 52 ⌝ }
     ensures { λ r. ⌜ r ≡ (floorRoot 26 radicand, radicand - floorRoot 26 radicand * floorRoot 26 radicand) ⌝ }
@@ -55,8 +56,8 @@ fn nearer_root(radicand: u64, guess: u64) -> u64
     (guess + radicand / guess) / 2
 }
 
-// A guess at the whole square root: two steps of Newton's rule from a line that is within one in two hundred, below 2^50 and from there on.
-// For the radicands of steps, from 2^49 to 2^51, it is right but once in a thousand or so.
+// A guess at the whole square root: two steps of Newton's rule from a line, one below 2^50 and one from there on, that is within a
+// hundredth of the root. Of the radicands of steps, from 2^49 to 2^51, it is right for all but one in two hundred or so.
 fn guessed_root(radicand: u64) -> u64
     requires { ⌜ radicand < 2 ^ 52 ⌝ }
 {
