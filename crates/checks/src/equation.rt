@@ -1,4 +1,5 @@
 // The two equations of a rounded step.
+ghost use mathlib.Core.Bool.{cond};
 ghost use mathlib.Core.Path.{_≡_};
 ghost use Prim.Native.Nat.{_≤_};
 ghost use Rattle.hints.specs.Settings.{Fit};
@@ -50,6 +51,13 @@ impl Equation {
 // 2^26: a sum keeps 26 bits below the larger operand, and a dividend is moved up by as many.
 const GUARD: u64 = 0x400_0000;
 
+// `x` where `first` is set, else `y`.
+fn either(first: bool, x: u64, y: u64) -> u64
+    ensures { λ r. ⌜ r ≡ cond first x y ⌝ }
+{
+    if first { x } else { y }
+}
+
 // The first equation ties main and rest to the significands of the operands.
 pub(crate) fn first_equation(setting: Setting, hints: Hints) -> Equation
     requires { ⌜ Fit setting ⌝ }
@@ -64,8 +72,22 @@ pub(crate) fn first_equation(setting: Setting, hints: Hints) -> Equation
     } = setting;
     let Hints { main, rest, .. } = hints;
     match kind {
-        Kind::Sum => Equation::of(first, GUARD, second, power(shift), main, 1, 0),
-        Kind::Difference => Equation::of(main, 1, second, power(shift), first, GUARD, 0),
+        Kind::Sum | Kind::Difference => {
+            // One way for both, since which it is cannot be foreseen: in a difference the sides are exchanged.
+            let sum = match kind {
+                Kind::Sum => true,
+                _ => false,
+            };
+            Equation::of(
+                either(sum, first, main),
+                either(sum, GUARD, 1),
+                second,
+                power(shift),
+                either(sum, main, first),
+                either(sum, 1, GUARD),
+                0,
+            )
+        }
         Kind::Product => Equation::of(first, second, 0, 0, main, 1, 0),
         Kind::Quotient => Equation::of(first, GUARD, 0, 0, main, second, rest),
         Kind::Root => Equation::of(first, power(shift), 0, 0, main, main, rest),

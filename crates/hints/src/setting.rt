@@ -64,6 +64,16 @@ fn radicand_shift(x: NormalForm) -> u32
     26 + x.exponent % 2
 }
 
+// Sum, or else difference.
+fn sum_kind(exact: Exact) -> Kind
+    ensures { λ r. ⌜ r ≡ elim exact [ Exact.Sum x y ↦ Kind.Sum | Exact.Difference x y ↦ Kind.Difference | Exact.Product x y ↦ Kind.Difference | Exact.Quotient x y ↦ Kind.Difference | Exact.Root x ↦ Kind.Difference ] ⌝ }
+{
+    match exact {
+        Exact::Sum(_, _) => Kind::Sum,
+        _ => Kind::Difference,
+    }
+}
+
 impl Setting {
     // The setting of a step with two operands.
     fn two(
@@ -92,24 +102,14 @@ impl Setting {
         ensures { λ r. ⌜ r ≡ settingOf negative exact ⌝ }
     {
         match exact {
-            Exact::Sum(x, y) => Setting::two(
-                Kind::Sum,
+            Exact::Sum(x, y) | Exact::Difference(x, y) => Setting::two(
+                sum_kind(exact),
                 negative,
                 x,
                 y,
                 alignment(x, y),
                 x.exponent + SUM_BIAS,
             ),
-            Exact::Difference(x, y) => {
-                Setting::two(
-                    Kind::Difference,
-                    negative,
-                    x,
-                    y,
-                    alignment(x, y),
-                    x.exponent + SUM_BIAS,
-                )
-            }
             Exact::Product(x, y) => {
                 Setting::two(
                     Kind::Product,

@@ -1,4 +1,5 @@
 // The writer: a step's word with the hints that back it.
+ghost use mathlib.Core.Bool.{cond};
 ghost use mathlib.Core.Path.{_≡_};
 ghost use Prim.Native.Nat.{_+_, _-_, _*_, _^_, _<_, _≤_};
 ghost use Rattle.binary32.specs.Operations.{operationOf};
@@ -53,20 +54,31 @@ impl Hints {
     };
 }
 
+// The main of a sum, or else of a difference. The two are one way through the code, since which it is cannot be foreseen.
+fn sum_main(is_sum: bool, setting: Setting) -> u64
+    requires { ⌜ setting .first < 2 ^ 24 ⌝ ∗ ⌜ setting .second < 2 ^ 24 ⌝ ∗ ⌜ setting .shift ≤ 26 ⌝ }
+    ensures { λ r. ⌜ r ≡ cond «is_sum» (setting .first * 2 ^ 26 + setting .second * 2 ^ setting .shift) (setting .first * 2 ^ 26 - setting .second * 2 ^ setting .shift) ⌝ }
+{
+    if is_sum {
+        moved_up(setting.first, 26) + moved_up(setting.second, setting.shift)
+    } else {
+        moved_up(setting.first, 26).saturating_sub(moved_up(setting.second, setting.shift))
+    }
+}
+
 // The hints main and rest.
 fn principal(setting: Setting) -> (u64, u64)
     requires { ⌜ Fit setting ⌝ }
     ensures { λ r. ⌜ r ≡ principalOf setting ⌝ }
 {
     match setting.kind {
-        Kind::Sum => (
-            moved_up(setting.first, 26) + moved_up(setting.second, setting.shift),
-            0,
-        ),
-        Kind::Difference => (
-            moved_up(setting.first, 26) - moved_up(setting.second, setting.shift),
-            0,
-        ),
+        Kind::Sum | Kind::Difference => {
+            let is_sum = match setting.kind {
+                Kind::Sum => true,
+                _ => false,
+            };
+            (sum_main(is_sum, setting), 0)
+        }
         Kind::Product => (setting.first * setting.second, 0),
         Kind::Quotient => quotient(moved_up(setting.first, 26), setting.second),
         Kind::Root => square_root(moved_up(setting.first, setting.shift)),

@@ -1,6 +1,6 @@
 // A cell of a sheet, and what one of them alone can answer and become.
 ghost use mathlib.Core.Path.{_≡_};
-ghost use Rattle.sheet.specs.Cells.{takenIn, acceptedIn, wordIn, wordOrZero, settledState, closedState};
+ghost use Rattle.sheet.specs.Cells.{takenIn, acceptedIn, wordIn, wordOrZero, settledState, closedCell};
 use crate::refusal::Refusal;
 use binary32::Operation;
 use binary32::Word;
@@ -87,14 +87,11 @@ pub(crate) fn strike_cell(cell: &mut Cell)
     cell.state = State::Struck;
 }
 
-// What a cell becomes when its sheet is closed: a pending one is struck.
-pub(crate) fn close_cell(cell: Cell) -> Cell
-    ensures { λ r. ⌜ r ≡ record { state = closedState (cell .state) } ⌝ }
+// Closes a cell with its sheet: a pending one is struck.
+pub(crate) fn close_cell(cell: &mut Cell)
+    ensures { λ _. ⌜ now (cell .exit) ≡ closedCell (now (cell .entry)) ⌝ }
 {
-    match cell.state {
-        State::Pending { .. } => Cell {
-            state: State::Struck,
-        },
-        _ => cell,
+    if let State::Pending { .. } = cell.state {
+        strike_cell(cell);
     }
 }

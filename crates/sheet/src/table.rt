@@ -27,7 +27,7 @@ fn close_cells(cells: &mut [Cell])
     ensures { λ _. ⌜ now (cells .exit) ≡ map closedCell (now (cells .entry)) ⌝ }
 {
     for cell in cells.iter_mut() {
-        *cell = close_cell(*cell);
+        close_cell(cell);
     }
 }
 

@@ -17,7 +17,7 @@ loop-cell-again c =
     let cells = c .loop-cell .cells in
     let x : Cell = getD cells i (cellOf Free) in
     let within : i < length cells = omega arith in
-    let closed : c .close-cell .result ≡ closedCell x = c .close-cell .ensures in
+    let closed : c .close-cell .last .cell ≡ closedCell x = c .close-cell .ensures in
     ap (set cells i) closed
     ∙ map-over-more closedCell (c .args .cells .now) cells i x (c .loop-cell-test .taken) (c .loop-cell .inv) (getD-default cells i (cellOf Free) x within)
 
