@@ -71,23 +71,21 @@ pub(crate) fn first_equation(setting: Setting, hints: Hints) -> Equation
         ..
     } = setting;
     let Hints { main, rest, .. } = hints;
+    let sum = match kind {
+        Kind::Sum => true,
+        _ => false,
+    };
     match kind {
-        Kind::Sum | Kind::Difference => {
-            // One way for both, since which it is cannot be foreseen: in a difference the sides are exchanged.
-            let sum = match kind {
-                Kind::Sum => true,
-                _ => false,
-            };
-            Equation::of(
-                either(sum, first, main),
-                either(sum, GUARD, 1),
-                second,
-                power(shift),
-                either(sum, main, first),
-                either(sum, 1, GUARD),
-                0,
-            )
-        }
+        // One way for both, since which it is cannot be foreseen: in a difference the sides are exchanged.
+        Kind::Sum | Kind::Difference => Equation::of(
+            either(sum, first, main),
+            either(sum, GUARD, 1),
+            second,
+            power(shift),
+            either(sum, main, first),
+            either(sum, 1, GUARD),
+            0,
+        ),
         Kind::Product => Equation::of(first, second, 0, 0, main, 1, 0),
         Kind::Quotient => Equation::of(first, GUARD, 0, 0, main, second, rest),
         Kind::Root => Equation::of(first, power(shift), 0, 0, main, main, rest),

@@ -101,9 +101,10 @@ impl Setting {
         requires { ⌜ Proper exact ⌝ }
         ensures { λ r. ⌜ r ≡ settingOf negative exact ⌝ }
     {
+        let kind = sum_kind(exact);
         match exact {
             Exact::Sum(x, y) | Exact::Difference(x, y) => Setting::two(
-                sum_kind(exact),
+                kind,
                 negative,
                 x,
                 y,

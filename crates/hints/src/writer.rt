@@ -71,14 +71,12 @@ fn principal(setting: Setting) -> (u64, u64)
     requires { ⌜ Fit setting ⌝ }
     ensures { λ r. ⌜ r ≡ principalOf setting ⌝ }
 {
+    let is_sum = match setting.kind {
+        Kind::Sum => true,
+        _ => false,
+    };
     match setting.kind {
-        Kind::Sum | Kind::Difference => {
-            let is_sum = match setting.kind {
-                Kind::Sum => true,
-                _ => false,
-            };
-            (sum_main(is_sum, setting), 0)
-        }
+        Kind::Sum | Kind::Difference => (sum_main(is_sum, setting), 0),
         Kind::Product => (setting.first * setting.second, 0),
         Kind::Quotient => quotient(moved_up(setting.first, 26), setting.second),
         Kind::Root => square_root(moved_up(setting.first, setting.shift)),
