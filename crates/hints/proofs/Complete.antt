@@ -1,28 +1,29 @@
 -- All that the writer promises of the record that it gives for a step.
-use mathlib.Core.Path.{_≡_, refl, sym, ap, subst, _∙_}
-use mathlib.Core.Bool.{Bool, true, false, cond}
-use Prim.Native.Nat.{ℕ, _+_, _-_, _*_, _/_, _%_, _^_, _≤_, _<_}
+use mathlib.Core.Path.{_≡_, refl, sym, ap, _∙_}
+use mathlib.Core.Bool.{Bool, true, false}
+use Prim.Native.Nat.{ℕ, _+_, _/_, _%_, _^_, _≤_}
 use native.Mathlib.Omega.{arith}
-use lib.Dec.{eqb}
 use Rattle.std.proofs.shelf.Tests.{eq-eqb, ne-eqb}
 use Rattle.binary32.specs.Words.{signBit, magnitudeOf, composed}
-use Rattle.binary32.specs.Normal.{Proper, ProperStep}
+use Rattle.binary32.specs.Normal.{ProperStep}
 use Rattle.binary32.specs.Steps.{stepOf}
 use Rattle.binary32.specs.declared.operation.Operation.{Operation}
-use Rattle.binary32.specs.declared.step.Exact.{Exact}
 use Rattle.binary32.specs.declared.step.Step.{Step}
 use Rattle.binary32.specs.declared.step.Step.the-variants.{Direct, Rounded}
 use Rattle.binary32.proofs.Steps.{step-proper}
-use Rattle.rounding.specs.Exact.{Value, Sound, exactOf}
-use Rattle.rounding.specs.Nearest.{Nearest, top, nearest, result, resultWith}
+use Rattle.rounding.specs.Exact.{exactOf}
+use Rattle.rounding.specs.Nearest.{top, nearest, resultWith}
 use Rattle.rounding.specs.Laws.{Rounding}
 use Rattle.rounding.proofs.Climb.{is-nearest}
 use Rattle.rounding.proofs.Overflow.{overflows, keeps-sizes}
 use Rattle.rounding.proofs.Unique.{unique}
 use Rattle.rounding.proofs.Results.{sound-exact}
+use Rattle.hints.specs.Cases.{caseFrom, caseOf}
 use Rattle.hints.specs.Settings.{settingOf}
-use Rattle.hints.specs.Backs.{Backs, BacksStep, NoHints}
-use Rattle.hints.specs.Writer.{writtenFor, writtenStep, NearestWord, Right}
+use Rattle.hints.specs.Backs.{BacksStep}
+use Rattle.hints.specs.Writer.{roundedWith, writtenFor, writtenStep, NearestWord, Right}
+use Rattle.hints.specs.declared.setting.Case.{Case}
+use Rattle.hints.specs.declared.setting.Case.the-variants as case
 use Rattle.hints.specs.declared.writer.Written.{Written}
 use Rattle.hints.proofs.Backed.{rounded-backs}
 use Rattle.hints.proofs.Correct.{backs-result}
@@ -105,3 +106,15 @@ facts op a b r step is scheme =
 -- the laws of the nearest magnitude
 pub rounding : Rounding
 rounding = record { nearest-is = is-nearest; only-one = unique; beyond-all = overflows; kept-sizes = keeps-sizes }
+
+-- the same by the case of the step
+abbrev pub writtenCase : Case → Written
+writtenCase (case.Direct w) = writtenFor (Direct w)
+writtenCase (case.Rounded σ) = roundedWith σ
+
+case-written : (s : Step) → writtenCase (caseFrom s) ≡ writtenFor s
+case-written (Direct w) = refl
+case-written (Rounded negative x) = refl
+
+pub case-facts : (op : Operation) (a b : ℕ) (r : Written) (c : Case) → c ≡ caseOf op a b → r ≡ writtenCase c → Facts op a b r
+case-facts op a b r c is scheme = facts op a b r (stepOf op a b) refl (scheme ∙ ap writtenCase is ∙ case-written (stepOf op a b))

@@ -3,7 +3,7 @@ ghost use mathlib.Core.Bool.{cond};
 ghost use mathlib.Core.Path.{_≡_};
 ghost use Prim.Native.Nat.{_+_, _-_, _*_, _^_, _<_, _≤_};
 ghost use Rattle.binary32.specs.Operations.{operationOf};
-ghost use Rattle.binary32.specs.Steps.{stepOf};
+ghost use Rattle.hints.specs.Cases.{caseOf, FitCase};
 ghost use Rattle.hints.specs.Settings.{Fit};
 ghost use Rattle.hints.specs.Scheme.{principalOf};
 ghost use Rattle.hints.specs.Writer.{fromPrincipal, roundedWith, writtenStep, written, Right, RightReply};
@@ -16,10 +16,10 @@ use crate::leaves::quotient;
 use crate::leaves::square_root;
 use crate::place::Cut;
 use crate::refusal::Refusal;
+use crate::setting::Case;
 use crate::setting::Kind;
 use crate::setting::Setting;
 use binary32::Operation;
-use binary32::Step;
 use binary32::Word;
 use binary32::WordDebug;
 use binary32::WordPartialEq;
@@ -113,20 +113,20 @@ fn rounded(setting: Setting) -> Written
     filled_from(setting.negative, setting.scale, main, rest)
 }
 
-// The word and the hints of a step that is known.
-fn written_for(operation: Operation, a: Word, b: Word, step: Step) -> Written
-    requires { ⌜ stepOf operation (a .bits) (b .bits) ≡ step ⌝ }
+// The word and the hints of a step whose case is known.
+fn written_for(operation: Operation, a: Word, b: Word, case: Case) -> Written
+    requires { ⌜ case ≡ caseOf operation (a .bits) (b .bits) ⌝ ∗ ⌜ FitCase case ⌝ }
     ensures value { λ r. ⌜ r ≡ writtenStep operation (a .bits) (b .bits) ⌝ }
     ensures right { λ r. ⌜ Right operation (a .bits) (b .bits) r ⌝ }
     ensures rounding { λ _. ⌜ Rounding ⌝ }
     ensures worked { λ _. ⌜ Worked ⌝ }
 {
-    match step {
-        Step::Direct(word) => Written {
+    match case {
+        Case::Direct(word) => Written {
             word,
             hints: Hints::NONE,
         },
-        Step::Rounded { negative, exact } => rounded(Setting::of(negative, exact)),
+        Case::Rounded(setting) => rounded(setting),
     }
 }
 
@@ -139,7 +139,7 @@ pub fn write_step(operation: Operation, a: Word, b: Word) -> Written
     ensures rounding { λ _. ⌜ Rounding ⌝ }
     ensures worked { λ _. ⌜ Worked ⌝ }
 {
-    written_for(operation, a, b, operation.apply(a, b))
+    written_for(operation, a, b, Case::of(operation, a, b))
 }
 
 // The same by the operation's code, which may be none.

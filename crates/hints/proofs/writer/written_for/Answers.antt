@@ -1,31 +1,20 @@
-use mathlib.Core.Path.{_≡_, refl, sym, ap, _∙_}
-use Rattle.binary32.specs.Normal.{ProperStep}
-use Rattle.binary32.specs.Steps.{stepOf}
-use Rattle.binary32.proofs.Steps.{step-proper}
-use Rattle.hints.specs.Writer.{roundedWith}
-use Rattle.hints.proofs.Complete.{Facts, facts, rounding}
-use Rattle.hints.proofs.Settings.{setting-fits}
+use mathlib.Core.Path.{sym, ap, _∙_, subst}
+use Rattle.hints.specs.Cases.{FitCase}
+use Rattle.hints.proofs.Complete.{case-facts, rounding, writtenCase}
 use Rattle.hints.proofs.Worked.{worked}
 use Rattle.hints.proofs.writer.written_for.Needs as need
 
--- the exact result of a rounded step is proper
-pub of-requires : need.of-requires
-of-requires c κs =
-    let proper = step-proper (c .args .operation) (c .args .a .bits) (c .args .b .bits) in
-    rw (c .pre ∙ c .in-Rounded .is) at proper
-
+-- a rounded case keeps the bounds of its setting
 pub rounded-requires : need.rounded-requires
-rounded-requires c κs =
-    let proper = step-proper (c .args .operation) (c .args .a .bits) (c .args .b .bits) in
-    rw (c .of .ensures) (setting-fits (c .in-Rounded .negative) (c .in-Rounded .exact) (rw (c .pre ∙ c .in-Rounded .is) at proper))
+rounded-requires c κs = subst FitCase (c .in-Rounded .is) (c .pre .1)
 
 pub returns-in-Direct : need.returns-in-Direct
 returns-in-Direct c =
-    let known = facts (c .args .operation) (c .args .a .bits) (c .args .b .bits) _ _ (c .pre ∙ c .in-Direct .is) refl in
+    let known = case-facts (c .args .operation) (c .args .a .bits) (c .args .b .bits) _ (c .args .case) (c .pre .0) (ap writtenCase (sym (c .in-Direct .is))) in
     record { value = known .value; right = known .right; rounding = rounding; worked = worked }
 
 pub returns-in-Rounded : need.returns-in-Rounded
 returns-in-Rounded c =
-    let is : c .rounded .result ≡ roundedWith _ = c .rounded .ensures ∙ ap roundedWith (c .of .ensures) in
-    let known = facts (c .args .operation) (c .args .a .bits) (c .args .b .bits) _ _ (c .pre ∙ c .in-Rounded .is) is in
+    let known = case-facts (c .args .operation) (c .args .a .bits) (c .args .b .bits) (c .rounded .result) (c .args .case) (c .pre .0)
+        (c .rounded .ensures ∙ ap writtenCase (sym (c .in-Rounded .is))) in
     record { value = known .value; right = known .right; rounding = rounding; worked = worked }
