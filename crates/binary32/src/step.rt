@@ -163,9 +163,13 @@ impl Operation {
     pub fn apply(self, a: Word, b: Word) -> Step
         ensures { λ r. ⌜ r ≡ stepOf self (a .bits) (b .bits) ⌝ }
     {
+        // A difference is a sum with the second sign turned. One call serves both, so that the compiler can lay it out in place.
+        let second = match self {
+            Operation::Subtract => b.turned(),
+            _ => b,
+        };
         match self {
-            Operation::Add => sum(a, b),
-            Operation::Subtract => sum(a, b.turned()),
+            Operation::Add | Operation::Subtract => sum(a, second),
             Operation::Multiply => product(a, b),
             Operation::Divide => quotient(a, b),
             Operation::SquareRoot => root(a),
