@@ -16,5 +16,5 @@ returns-in-Direct c =
 pub returns-in-Rounded : need.returns-in-Rounded
 returns-in-Rounded c =
     let known = case-facts (c .args .operation) (c .args .a .bits) (c .args .b .bits) (c .rounded .result) (c .args .case) (c .pre .0)
-        (c .rounded .ensures ∙ ap writtenCase (sym (c .in-Rounded .is))) in
+    (c .rounded .ensures ∙ ap writtenCase (sym (c .in-Rounded .is))) in
     record { value = known .value; right = known .right; rounding = rounding; worked = worked }
