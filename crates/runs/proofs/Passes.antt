@@ -14,16 +14,19 @@ use Rattle.binary32.specs.declared.word.Word.{Word}
 use Rattle.hints.specs.Writer.{writtenStep}
 use Rattle.hints.specs.declared.writer.Written.{Written}
 use Rattle.sheet.proofs.Found.{found-sound}
-use Rattle.sheet.specs.Calls.{Model, answerOf, cellsOf, found, opened, secondWord, settleReplyAt}
+use Rattle.sheet.specs.Calls.{Model, answerOf, cellsOf, closeAfter, found, opened, readReply, secondWord, settleReplyAt}
+use Rattle.sheet.specs.Cells.{wordIn}
 use Rattle.sheet.specs.declared.cell.State.the-variants.{Free, Input, Pending}
 use Rattle.runs.proofs.Follows.{stand-alike}
 use Rattle.runs.proofs.Reaches.{known-reached}
-use Rattle.runs.specs.Histories.{History, on-open, accepted, pending}
-use Rattle.runs.specs.Honest.{Honest, claimIn, third}
-use Rattle.runs.specs.Replies.{openReply, pendingState, standing}
-use Rattle.runs.specs.Sheets.{Reached, is-open, openAfter}
+use Rattle.runs.specs.Histories.{Claim, History, on-open, close, on-closed, accepted, closed-up, pending, statusOf}
+use Rattle.runs.specs.Honest.{Honest, claimIn, passing, third}
+use Rattle.runs.specs.Replies.{openReply, pendingState, standing, stateOf}
+use Rattle.runs.specs.Sheets.{Reached, Sheet, is-open, is-closed, openAfter}
+use Rattle.runs.specs.declared.answer.ClosedAnswer.the-variants as closed-answer
 use Rattle.runs.specs.declared.answer.OpenAnswer.{OpenAnswer}
 use Rattle.runs.specs.declared.answer.OpenAnswer.the-variants as answer
+use Rattle.runs.specs.declared.call.ClosedCall.the-variants as closed-call
 use Rattle.runs.specs.declared.call.OpenCall.{OpenCall}
 use Rattle.runs.specs.declared.call.OpenCall.the-variants as call
 
@@ -98,14 +101,27 @@ may-settle serial op a b w is =
     = found-sound s op 0 1 (w .word) (w .hints) .1 (is ∙ same-written serial op a b (w .word)) in
     ap answer.Settle (sym (ap (settleReplyAt s 2 (w .hints)) presented-is ∙ ap (answerOf 2) passes))
 
+-- a step that is accepted is read on the closed sheet too
+read-closed : (serial weight modulus : ℕ) (h : History) → Met serial weight modulus h → (n : ℕ) (c : Claim) → statusOf h n ≡ accepted c →
+    (s : Sheet) × Reached serial weight modulus (on-closed (closed-call.Read n) (closed-answer.Read (Ok (c .word))) ∷ close ∷ h) s
+read-closed serial weight modulus h met n c is =
+    let m = closeAfter (met .model) in
+    let reached : Reached serial weight modulus (close ∷ h) (is-closed m) = (is-open (met .model), met .reached, refl) in
+    let follows = known-reached serial weight modulus (close ∷ h) (is-closed m) reached .follows in
+    let reads : closed-answer.Read (Ok (c .word)) ≡ closed-answer.Read (readReply (cellsOf m) n)
+    = sym (ap (λ s. closed-answer.Read (wordIn (stateOf (closed-up s)))) is)
+    ∙ ap (λ s. closed-answer.Read (readReply s n)) (stand-alike serial weight (close ∷ h) m follows) in
+    (is-closed m, (is-closed m, reached, (reads, refl)))
+
 pub honest : Honest
 honest serial weight modulus op a b =
     let w = writtenStep op (a .bits) (b .bits) in
+    let c = claimIn serial op w in
     let none : Met serial weight modulus [] = record { model = opened serial weight; reached = refl } in
     let one = met-more serial weight modulus [] none (call.Input a) (answer.Input (Ok 0)) refl in
     let two = met-more serial weight modulus (on-open (call.Input a) (answer.Input (Ok 0)) ∷ []) one (call.Input b) (answer.Input (Ok 1)) refl in
     let three = met-more serial weight modulus (inputs a b) two (call.Enter (codeOf op) 0 1 (w .word)) (answer.Enter (Ok (third serial))) (may-enter serial op a b (w .word)) in
-    let four = met-more serial weight modulus (entered serial op a b (w .word)) three (call.Settle (third serial) (w .hints)) (answer.Settle (Ok 2)) (may-settle serial op a b w refl) in (
-      (is-open (four .model), four .reached),
-      cond-true (eqb serial serial) (accepted (claimIn serial op w)) (pending (claimIn serial op w)) (eq-eqb serial serial refl),
-    )
+    let four = met-more serial weight modulus (entered serial op a b (w .word)) three (call.Settle (third serial) (w .hints)) (answer.Settle (Ok 2)) (may-settle serial op a b w refl) in
+    let passes : statusOf (passing serial op a b w) 2 ≡ accepted c = cond-true (eqb serial serial) (accepted c) (pending c) (eq-eqb serial serial refl) in
+    let five = met-more serial weight modulus (passing serial op a b w) four (call.Read 2) (answer.Read (Ok (w .word))) (sym (ap (λ s. answer.Read (wordIn (stateOf s))) passes)) in
+    (read-closed serial weight modulus (on-open (call.Read 2) (answer.Read (Ok (w .word))) ∷ passing serial op a b w) five 2 c passes, passes)

@@ -9,9 +9,11 @@ use Rattle.binary32.specs.declared.word.Word.{Word}
 use Rattle.hints.specs.Writer.{writtenStep}
 use Rattle.hints.specs.declared.writer.Written.{Written}
 use Rattle.sheet.specs.declared.ticket.Stub.{Stub}
-use Rattle.runs.specs.Histories.{Claim, History, on-open, accepted, statusOf}
+use Rattle.runs.specs.Histories.{Claim, History, on-open, close, on-closed, accepted, statusOf}
 use Rattle.runs.specs.Sheets.{Reached, Sheet}
+use Rattle.runs.specs.declared.answer.ClosedAnswer.the-variants as closed-answer
 use Rattle.runs.specs.declared.answer.OpenAnswer.the-variants as answer
+use Rattle.runs.specs.declared.call.ClosedCall.the-variants as closed-call
 use Rattle.runs.specs.declared.call.OpenCall.the-variants as call
 
 abbrev pub third : ℕ → Stub
@@ -29,8 +31,17 @@ passing serial op a b w =
 abbrev pub claimIn : ℕ → Operation → Written → Claim
 claimIn serial op w = record { serial = serial; code = codeOf op; first = 0; second = 1; word = w .word }
 
--- with what the writer gives for any operation on any words, a sheet can meet that history, and then the step is accepted
+-- then the step is read on the open sheet, and after the close on the closed one
+abbrev pub shown : ℕ → Operation → Word → Word → Written → History
+shown serial op a b w =
+    on-closed (closed-call.Read 2) (closed-answer.Read (Ok (w .word)))
+    ∷ close
+    ∷ on-open (call.Read 2) (answer.Read (Ok (w .word)))
+    ∷ passing serial op a b w
+
+-- With what the writer gives for any operation on any words, a sheet can meet that history, in which the settle meets a pending claim
+-- and both reads an accepted step: so every premise of the law is met.
 abbrev pub Honest : Type 0
 Honest = (serial weight modulus : ℕ) (op : Operation) (a b : Word) →
-    ((s : Sheet) × Reached serial weight modulus (passing serial op a b (writtenStep op (a .bits) (b .bits))) s)
+    ((s : Sheet) × Reached serial weight modulus (shown serial op a b (writtenStep op (a .bits) (b .bits))) s)
     × (statusOf (passing serial op a b (writtenStep op (a .bits) (b .bits))) 2 ≡ accepted (claimIn serial op (writtenStep op (a .bits) (b .bits))))
