@@ -3,8 +3,9 @@
  * Link target/staticlib/libkelfrudd.a, which `rt staticlib kelfrudd` makes; of the C library it needs memcpy alone. docs/RULES.md has the rules and
  * every number. No function allocates, keeps anything between calls, or fails in any other way than by the number that it returns.
  *
- * A slice is a pointer and then a length in places of 64 bits. The pointer must not be NULL, not even with length 0, and must point to at
- * least so many places; a slice that is written must overlap no other argument. Nothing else is asked of a caller.
+ * A slice is a pointer and then a length in places of 64 bits. The pointer must not be NULL, not even with length 0, must be aligned as a
+ * uint64_t, and must point to at least so many places; a slice that is written must overlap no other argument, and nobody else may write
+ * a slice meanwhile.
  *
  * Operations have the codes 1 add, 2 subtract, 3 multiply, 4 divide, 5 square root (of the first word alone), 6 equal, 7 less,
  * 8 less or equal. Words are the bits of a binary32 datum. */
@@ -68,10 +69,11 @@ uint32_t kelfrudd_check_step(uint32_t system, uint32_t code, uint32_t first, uin
  *
  *     the number returned
  *     how many rows passed, which is the index of the row that stopped the list
- *     the operand, 1 or 2, of numbers 3 and 4; the cell of numbers 6 to 10; else 0
+ *     the operand, 1 or 2, of number 3; the cell of numbers 6 to 10; else 0
  *     the hint, 1 to 6, of number 6; else 0
  *     the closing number where every row passed, else 0
  *
+ * Numbers 4 and 5 do not come: a list stops at its first refusal, and its tickets are the sheet's own. The serial alters nothing that is told.
  * An empty list passes, with the closing number 0. KELFRUDD_TOO_SHORT where told has fewer than five places, then
  * KELFRUDD_NO_WHOLE_ROWS, then KELFRUDD_UNKNOWN_SYSTEM: nothing is written. */
 uint32_t kelfrudd_check_sheet(uint32_t system, uint32_t serial, uint64_t weight, const uint64_t *numbers, size_t numbers_given,

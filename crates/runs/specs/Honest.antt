@@ -1,4 +1,4 @@
--- That the law speaks of something: on every sheet a step is accepted that has the writer's word and hints.
+-- That the law speaks of something: a step with the writer's word and hints passes, as the first on a newly opened sheet.
 use Prim.Native.Nat.{ℕ}
 use mathlib.Core.List.{[], _∷_}
 use mathlib.Core.Path.{_≡_}
