@@ -145,7 +145,7 @@ fn claims() -> Vec<u64> {
     rows.into_flattened()
 }
 
-// A sheet of 256 inputs: what it takes is mostly the closing number.
+// A sheet of 256 inputs.
 fn inputs() -> Vec<u64> {
     let mut s = Stream::new(5);
     (0..256).flat_map(|_| [0, 0, 0, u64::from(operand(&mut s)), 0, 0, 0, 0, 0, 0]).collect()
@@ -172,6 +172,17 @@ fn sheets() {
     }
 }
 
+// The close and the closing number alone: a list of 256 inputs, less the same list stopped by an input too many.
+fn closings() {
+    let whole = &inputs()[..];
+    let stopped = &[whole, &[0; 10]].concat()[..];
+    for (system, at) in SYSTEMS {
+        let with = best(1, check_sheet!(ours, system, whole), check_sheet!(independent, system, whole));
+        let without = best(1, check_sheet!(ours, system, stopped), check_sheet!(independent, system, stopped));
+        line(&format!("closing number of 256 cells, {at}"), (with.0 - without.0, with.1 - without.1));
+    }
+}
+
 fn main() -> ExitCode {
     match compare::all() {
         Ok(said) => println!("{said}"),
@@ -184,6 +195,7 @@ fn main() -> ExitCode {
     println!("{:<44} {:>9} {:>12} {:>7}", "", "library", "independent", "ratio");
     steps();
     sheets();
+    closings();
     println!();
     for (code, name) in [(1, "add"), (2, "subtract"), (3, "multiply"), (4, "divide"), (5, "root")] {
         println!("{:<44} {:>9.2}", format!("{name}, the machine's own, word alone"), machine(code, &batch(name)));
