@@ -1,5 +1,7 @@
 // Binary32 words and the operations on them: the fields and the class of a word, and the step that an
 // operation takes on two words, which is direct or has to be rounded.
+#![tactic(auto)]
+
 mod operation;
 mod step;
 mod word;

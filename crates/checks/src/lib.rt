@@ -1,4 +1,6 @@
 // A claimed word and its six hints, examined in any number system: the first check that fails is the answer.
+#![tactic(auto)]
+
 mod claim;
 mod equation;
 mod flaw;

@@ -1,4 +1,6 @@
 // The six hints that back a rounded step, and the writer that gives the word of a step with its hints.
+#![tactic(auto)]
+
 mod leaves;
 mod place;
 mod refusal;

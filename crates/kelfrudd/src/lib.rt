@@ -1,4 +1,6 @@
 // The library for other languages: steps written and checked, and whole sheets, by functions over numbers and slices alone.
+#![tactic(auto)]
+
 mod checking;
 mod exports;
 mod listed;

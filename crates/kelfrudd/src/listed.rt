@@ -56,7 +56,7 @@ pub(crate) fn conclude<S: System>(
     weight: u64,
     numbers: &[u64],
 ) -> Result<u64, Stop>
-    ensures { result ≡ concluded modulus (ran_to serial weight numbers.now (length numbers.now / 10)) }
+    ensures { result ≡ concluded S.modulus (ran_to serial weight numbers.now (length numbers.now / 10)) }
 {
     let mut sheet = OpenSheet::new(serial, weight, system);
     for n in 0..numbers.len() / 10 {

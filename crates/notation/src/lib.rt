@@ -1,4 +1,6 @@
 // Steps as lines of text: an operation's name and its words, as `add 3F800000 33800000` or `root 40000000`.
+#![tactic(auto)]
+
 mod fault;
 mod line;
 mod name;

@@ -1,6 +1,8 @@
 // Reads requests from standard input, one to a line, and prints for each the steps that show whether the position lies in the region,
 // what became of them on the sheets, and the verdict. A line that is no request is reported by its number. The last line says how
 // many lines there were of each kind.
+#![tactic(auto)]
+
 mod text;
 
 use crate::text::{ReportText, TallyText};

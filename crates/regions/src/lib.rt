@@ -1,5 +1,7 @@
 // Requests whether a position lies within the radius of a centre, by steps of binary32 arithmetic: their text, the calls on a sheet
 // that show it, and what the answers to those calls say.
+#![tactic(auto)]
+
 mod agree;
 mod calls;
 mod claims;

@@ -1,4 +1,6 @@
 // Lists of calls on a sheet as data, and their replay on two sheets.
+#![tactic(auto)]
+
 mod answer;
 mod call;
 mod meet;

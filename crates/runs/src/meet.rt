@@ -61,7 +61,7 @@ pub(crate) fn meet_open<S: System>(
 }
 
 pub(crate) fn meet_closed<S: System>(sheet: &ClosedSheet<S>, call: ClosedCall) -> ClosedAnswer
-    ensures { result ≡ closed_reply modulus sheet.now.weight (cells_of (closed_model_of sheet.now)) call }
+    ensures { result ≡ closed_reply S.modulus sheet.now.weight (cells_of (closed_model_of sheet.now)) call }
 {
     match call {
         ClosedCall::Read(cell) => ClosedAnswer::Read(sheet.read(cell)),

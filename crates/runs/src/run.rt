@@ -50,7 +50,7 @@ fn meet_all_closed<S: System>(
     answers: &mut Vec<ClosedAnswer>,
 )
     requires { vec_len answers.old + length calls.now ≤ vec_capacity answers.old }
-    ensures { answers.new.items ≡ answers.old.items ++ closed_answers modulus (closed_model_of sheet.now) calls.now }
+    ensures { answers.new.items ≡ answers.old.items ++ closed_answers S.modulus (closed_model_of sheet.now) calls.now }
 {
     for call in calls {
         answers.push_reserved(meet_closed(sheet, *call));
@@ -68,7 +68,7 @@ fn answers_on<S: System>(
 ) -> Answers
     requires { Roomy room (length opened.now) (count_of (option_map (λ x. x.now) closed)) }
     ensures opened { result.opened.items ≡ answers_from (opened_with serial weight) opened.now }
-    ensures closed { result.closed.items ≡ later_answers modulus (after_all (opened_with serial weight) opened.now) (option_map (λ x. x.now) closed.entry) }
+    ensures closed { result.closed.items ≡ later_answers S.modulus (after_all (opened_with serial weight) opened.now) (option_map (λ x. x.now) closed.entry) }
 {
     let Answers {
         opened: mut while_open,

@@ -1,4 +1,6 @@
 // Vectors as claims on sheets: each is entered and settled with the word that it expects, and with a damaged one.
+#![tactic(auto)]
+
 mod claim;
 mod count;
 mod settlements;

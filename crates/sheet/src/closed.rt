@@ -30,7 +30,7 @@ impl<S: System> ClosedSheet<S> {
 
     // From 0, for each accepted cell in order of its number: times the weight, plus the word, in the sheet's system.
     pub fn closing_number(&self) -> u64
-        ensures { result ≡ closing_number modulus self.now.weight (cells_of (closed_model_of self.now)) }
+        ensures { result ≡ closing_number S.modulus self.now.weight (cells_of (closed_model_of self.now)) }
     {
         fold_words(&self.system, self.weight, &self.table)
     }

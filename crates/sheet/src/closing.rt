@@ -10,7 +10,7 @@ use systems::System;
 
 // The total times the weight, plus the word.
 fn with_word<S: System>(system: &S, weight: S::Element, total: S::Element, word: Word) -> S::Element
-    ensures { (w n : ℕ) → remainder weight ≡ w % modulus → remainder total ≡ n % modulus → remainder result ≡ fold_from w n (word ∷ []) % modulus }
+    ensures { (w n : ℕ) → S.remainder weight ≡ w % S.modulus → S.remainder total ≡ n % S.modulus → S.remainder result ≡ fold_from w n (word ∷ []) % S.modulus }
 {
     system.sum(
         system.product(total, weight),
@@ -25,7 +25,7 @@ fn with_cell<S: System>(
     total: S::Element,
     state: State,
 ) -> S::Element
-    ensures { (w n : ℕ) → remainder weight ≡ w % modulus → remainder total ≡ n % modulus → remainder result ≡ fold_from w n (words_of state) % modulus }
+    ensures { (w n : ℕ) → S.remainder weight ≡ w % S.modulus → S.remainder total ≡ n % S.modulus → S.remainder result ≡ fold_from w n (words_of state) % S.modulus }
 {
     match state {
         State::Input(word) | State::Accepted(word) => with_word(system, weight, total, word),
@@ -35,7 +35,7 @@ fn with_cell<S: System>(
 
 // The accepted words in order of their cells, from 0: for each, times the weight, plus the word.
 pub(crate) fn fold_words<S: System>(system: &S, weight: u64, table: &Table) -> u64
-    ensures { result ≡ closing_number modulus weight (standing_of table.now) }
+    ensures { result ≡ closing_number S.modulus weight (standing_of table.now) }
 {
     let factor = system.take_in(weight);
     let mut total = system.take_in(0);

@@ -1,4 +1,6 @@
 // A sheet of checked steps: inputs, claims that wait for their hints, and words that were accepted.
+#![tactic(auto)]
+
 mod cell;
 mod closed;
 mod closing;

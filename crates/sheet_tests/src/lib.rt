@@ -1,4 +1,6 @@
 // The sheet on worked figures, over both number systems.
+#![tactic(auto)]
+
 #[cfg(test)]
 mod closed;
 #[cfg(test)]

@@ -11,8 +11,8 @@ fn two_products<S: System>(
     third: u64,
     fourth: u64,
 ) -> S::Element
-    ensures remainders { remainder result ≡ (first * second + third * fourth) % modulus }
-    ensures numbers { first * second + third * fourth < 2 ^ 56 → remainder result ≡ first * second + third * fourth }
+    ensures remainders { S.remainder result ≡ (first * second + third * fourth) % S.modulus }
+    ensures numbers { first * second + third * fourth < 2 ^ 56 → S.remainder result ≡ first * second + third * fourth }
 {
     let front = system.product(system.take_in(first), system.take_in(second));
     let back = system.product(system.take_in(third), system.take_in(fourth));
@@ -21,8 +21,8 @@ fn two_products<S: System>(
 
 // An element for `first * second + third`.
 fn product_and_term<S: System>(system: &S, first: u64, second: u64, third: u64) -> S::Element
-    ensures remainders { remainder result ≡ (first * second + third) % modulus }
-    ensures numbers { first * second + third < 2 ^ 56 → remainder result ≡ first * second + third }
+    ensures remainders { S.remainder result ≡ (first * second + third) % S.modulus }
+    ensures numbers { first * second + third < 2 ^ 56 → S.remainder result ≡ first * second + third }
 {
     let product = system.product(system.take_in(first), system.take_in(second));
     system.sum(product, system.take_in(third))
@@ -40,7 +40,7 @@ pub fn balances<S: System>(
     sixth: u64,
     seventh: u64,
 ) -> bool
-    ensures remainders { result ≡ ((first * second + third * fourth) % modulus == (fifth * sixth + seventh) % modulus) }
+    ensures remainders { result ≡ ((first * second + third * fourth) % S.modulus == (fifth * sixth + seventh) % S.modulus) }
     ensures numbers { first * second + third * fourth < 2 ^ 56 → fifth * sixth + seventh < 2 ^ 56 → result ≡ (first * second + third * fourth == fifth * sixth + seventh) }
 {
     let left = two_products(system, first, second, third, fourth);

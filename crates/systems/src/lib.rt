@@ -1,4 +1,6 @@
 // Number systems: arithmetic on remainders, in which equations between products of 64-bit numbers are tested.
+#![tactic(auto)]
+
 mod equation;
 mod pair;
 mod residue;

@@ -2,6 +2,8 @@
 // with the word that it expects and once with that word damaged. It prints the vectors that differ and the lines that are no
 // vector, the first of each, then how many vectors of each operation agree and differ, how many in all, and how many claims
 // were accepted and refused in each system.
+#![tactic(auto)]
+
 use binary32::Operation;
 use notation::name_of;
 use settling::Settlements;

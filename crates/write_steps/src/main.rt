@@ -1,5 +1,7 @@
 // Reads steps from standard input, one to a line, and prints each with its word and its hints. A line that is
 // no step is reported by its number. The last line says how many answers there were of each kind.
+#![tactic(auto)]
+
 use std::io;
 use std::io::{BufRead, BufReader};
 use writing::{Answer, Tally, answer_to};

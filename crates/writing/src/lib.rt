@@ -1,4 +1,6 @@
 // The writer's answers to lines of text, and vectors held to it: lines that also say which word a step has.
+#![tactic(auto)]
+
 mod answer;
 mod counts;
 mod tally;

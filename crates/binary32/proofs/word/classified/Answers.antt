@@ -5,5 +5,5 @@ use Rattle.binary32.proofs.word.classified.Goals as goal
 
 pub returns : goal.returns
 returns c =
-    let is : c.class-of.result ≡ class_of c.args.word.bits = search rules in
+    let is : c.class_of.result ≡ class_of c.args.word.bits = search rules in
     record { value = is; sized = rw is (class_stands c.args.word.bits) }

@@ -4,8 +4,8 @@ use Rattle.binary32.specs.declared.word.NormalForm.{NormalForm}
 use Rattle.binary32.proofs.Zeros.{zeros_wider, lifted_below}
 use Rattle.binary32.proofs.word.normalized.Goals as goal
 
-pub overflow-sub-zeros : goal.overflow-sub-zeros
-overflow-sub-zeros c = omega (arith, zeros_wider 8 24 c.args.fraction (omega arith))
+pub overflow_sub-zeros : goal.overflow_sub-zeros
+overflow_sub-zeros c = omega (arith, zeros_wider 8 24 c.args.fraction (omega arith))
 
 pub returns : goal.returns
 returns c =

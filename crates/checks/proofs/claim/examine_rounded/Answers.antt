@@ -7,8 +7,8 @@ pub holds-requires : goal.holds-requires
 holds-requires g c =
     let σ = c.args.setting in
     let h = c.args.hints in
-    let front = front_within σ.kind σ.second h c.in-default.ensures in
-    rw c.first_balance.ensures
+    let front = front_within σ.kind σ.second h c.in_default.ensures in
+    rw c.first_equation.ensures
     (first_narrow σ.kind σ.first σ.second σ.shift h.main h.rest
     c.requires.high c.requires.second_high c.requires.suits front.main_fits front.rest_width)
 
@@ -17,7 +17,7 @@ holds-requires-2 g c =
     let σ = c.args.setting in
     let h = c.args.hints in
     let k = c.place-k.result in
-    let front = front_within σ.kind σ.second h c.in-default.ensures in
-    let back = back_within k h c.in-default-back-outside.ensures in
-    rw c.second_balance.ensures
+    let front = front_within σ.kind σ.second h c.in_default.ensures in
+    let back = back_within k h c.in_default-back_outside.ensures in
+    rw c.second_equation.ensures
     (second_narrow k h c.place-k.ensures.bound front.lift_width front.lift_high back.keep_width back.drop_width)

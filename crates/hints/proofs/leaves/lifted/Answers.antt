@@ -4,8 +4,8 @@ use Rattle.binary32.proofs.Zeros.{zeros_wider, lifted_below}
 use Rattle.hints.proofs.Lifts.{lift_at_most}
 use Rattle.hints.proofs.leaves.lifted.Goals as goal
 
-pub overflow-sub-lift : goal.overflow-sub-lift
-overflow-sub-lift c = omega (arith, zeros_wider 13 51 c.args.main c.requires.1)
+pub overflow_sub-lift : goal.overflow_sub-lift
+overflow_sub-lift c = omega (arith, zeros_wider 13 51 c.args.main c.requires.1)
 
 -- the field of 64 bits has 13 zeros more in front than that of 51
 pub returns : goal.returns
@@ -17,6 +17,6 @@ returns c =
     let few = lift_at_most main c.requires.0 c.requires.1 in
     record {
       value = rw (zeros, whole);
-      lift-bound = rw zeros few;
+      lift_bound = rw zeros few;
       bound = rw (zeros, whole) kept;
     }

@@ -6,7 +6,7 @@ use Rattle.hints.proofs.leaves.square_root.Goals as goal
 pub returns-then-rest-guess : goal.returns-then-rest-guess
 returns-then-rest-guess c =
     let n = c.args.radicand in
-    let r = c.guessed-root-guess.result in
+    let r = c.guessed_root-guess.result in
     let is : IsRoot n r = record { below = omega arith; above = omega arith } in
     let same : r ≡ floor_root 26 n = root_unique n r (floor_root 26 n) is (digits_root 26 n c.requires) in
     ap (λ (x : ℕ). (x, n - x * x)) same

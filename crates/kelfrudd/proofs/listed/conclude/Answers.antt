@@ -21,5 +21,5 @@ returns-in-Some g c =
 pub loop-n-preserved : goal.loop-n-preserved
 loop-n-preserved g c =
     let x = c.args in
-    ran_on x.serial x.weight x.numbers.now c.loop-n.n (model_of c.loop-n.sheet) (model_of c.take-next.new.sheet)
-    c.loop-n.invariant c.in-default.ensures.stop c.take-next.ensures.after
+    ran_on x.serial x.weight x.numbers.now c.loop-n.n (model_of c.loop-n.sheet) (model_of c.take_next.new.sheet)
+    c.loop-n.invariant c.in_default.ensures.stop c.take_next.ensures.after

@@ -15,13 +15,13 @@ returns-then-i-text c =
     let end = prefix_len-drop_all is_digit (take 8 c.args.text.now) c.loop-i.i all in
     record { count = omega (arith, end); bound = omega arith; number = c.loop-i.invariant.1 }
 
-pub overflow-mul-bits : goal.overflow-mul-bits
-overflow-mul-bits c =
+pub overflow_mul-bits : goal.overflow_mul-bits
+overflow_mul-bits c =
     let few : c.loop-i.i < 8 = omega arith in
     omega (arith, number_small c.args.text.now c.loop-i.i few)
 
-pub overflow-add-bits : goal.overflow-add-bits
-overflow-add-bits c =
+pub overflow_add-bits : goal.overflow_add-bits
+overflow_add-bits c =
     let few : c.loop-i.i < 8 = omega arith in
     let value : c.in-Some.d ≡ value_of (get_or c.args.text.now c.loop-i.i 0) = ap (λ o. unwrap_or o 0) c.in-Some.ensures in
     omega (arith, number_small c.args.text.now c.loop-i.i few, value_small (get_or c.args.text.now c.loop-i.i 0))

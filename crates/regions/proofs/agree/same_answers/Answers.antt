@@ -4,7 +4,7 @@ use Rattle.regions.proofs.agree.same_answers.Goals as goal
 
 pub loop-i-preserved : goal.loop-i-preserved
 loop-i-preserved c =
-    take_more_same c.args.first.now c.args.second.now c.loop-i.i _ (omega arith) (omega arith) c.loop-i.invariant (c.same-answer.ensures.0 c.if-not-same-answer.false)
+    take_more_same c.args.first.now c.args.second.now c.loop-i.i _ (omega arith) (omega arith) c.loop-i.invariant (c.same_answer.ensures.0 c.if-not-same_answer.false)
 
 -- all that was passed is the whole
 pub returns : goal.returns

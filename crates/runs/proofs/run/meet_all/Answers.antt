@@ -12,14 +12,14 @@ loop-call-preserved g c =
     let calls = c.args.calls.now in
     let i = l.call-index in
     let m = model_of l.sheet in
-    let later = model_of c.meet-open.new.sheet in
-    let r = c.meet-open.result in
+    let later = model_of c.meet_open.new.sheet in
+    let r = c.meet_open.result in
     let rest = answers_from later (drop (i + 1) calls) in
-    let more = answers_more m later calls i (Input (record { bits = 0 })) r c.loop-call-test.true c.meet-open.ensures.reply c.meet-open.ensures.after in (
+    let more = answers_more m later calls i (Input (record { bits = 0 })) r c.loop-call-test.true c.meet_open.ensures.reply c.meet_open.ensures.after in (
       omega (arith, l.invariant.0),
-      pushed (vec_items c.push-reserved.new.self) (vec_items l.answers) rest r c.push-reserved.ensures.items
+      pushed (vec_items c.push_reserved.new.self) (vec_items l.answers) rest r c.push_reserved.ensures.items
           ∙ ap (λ xs. vec_items l.answers ++ xs) more ∙ l.invariant.1,
-      after_more m later calls i (Input (record { bits = 0 })) c.loop-call-test.true c.meet-open.ensures.after ∙ l.invariant.2,
+      after_more m later calls i (Input (record { bits = 0 })) c.loop-call-test.true c.meet_open.ensures.after ∙ l.invariant.2,
     )
 
 pub returns : goal.returns

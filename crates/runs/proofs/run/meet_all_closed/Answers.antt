@@ -12,11 +12,11 @@ loop-call-preserved g c =
     let calls = c.args.calls.now in
     let i = l.call-index in
     let m = closed_model_of c.args.sheet.now in
-    let r = c.meet-closed.result in
+    let r = c.meet_closed.result in
     let rest = closed_answers g.S.System.modulus m (drop (i + 1) calls) in
-    let more = closed_more g.S.System.modulus m calls i (Read 0) r c.loop-call-test.true c.meet-closed.ensures in (
+    let more = closed_more g.S.System.modulus m calls i (Read 0) r c.loop-call-test.true c.meet_closed.ensures in (
       omega (arith, l.invariant.0),
-      pushed (vec_items c.push-reserved.new.self) (vec_items l.answers) rest r c.push-reserved.ensures.items
+      pushed (vec_items c.push_reserved.new.self) (vec_items l.answers) rest r c.push_reserved.ensures.items
           ∙ ap (λ xs. vec_items l.answers ++ xs) more ∙ l.invariant.1,
     )
 

@@ -12,7 +12,7 @@ loop-cell-preserved c =
     let cells = c.loop-cell.cells in
     let x : Cell = get_or cells i (cell_of Free) in
     let within : i < length cells = omega arith in
-    let closed : c.close-cell.new.cell ≡ closed_cell x = c.close-cell.ensures in
+    let closed : c.close_cell.new.cell ≡ closed_cell x = c.close_cell.ensures in
     ap (set cells i) closed
     ∙ map_over_more closed_cell c.args.cells.now cells i x c.loop-cell-test.true c.loop-cell.invariant (get_or_default cells i (cell_of Free) x within)
 

@@ -7,11 +7,11 @@ pub returns : goal.returns
 returns g c =
     let x = c.args in
     let m = model_of x.self.now in
-    let reply : c.settle-stub.result ≡ settle_reply m.serial (cells_of m) x.ticket x.hints = search rules in
-    let after : model_of c.settle-stub.new.self ≡ settle_after m x.ticket x.hints = search rules in
+    let reply : c.settle_stub.result ≡ settle_reply m.serial (cells_of m) x.ticket x.hints = search rules in
+    let after : model_of c.settle_stub.new.self ≡ settle_after m x.ticket x.hints = search rules in
     record {
       reply = reply;
       after = after;
-      right = right_reply m x.ticket x.hints c.settle-stub.result reply;
-      refused = refused_reply m (model_of c.settle-stub.new.self) x.ticket x.hints c.settle-stub.result reply after;
+      right = right_reply m x.ticket x.hints c.settle_stub.result reply;
+      refused = refused_reply m (model_of c.settle_stub.new.self) x.ticket x.hints c.settle_stub.result reply after;
     }
