@@ -1,5 +1,5 @@
 -- What holds of every direct step, and of the rounded step of two finite words, holds of the step of any two words.
-use Rattle.std.proofs.Common.{◌≡◌, ℕ, Bool, true, false, cond, not, ◌&&◌, ◌||◌, refl}
+use Rattle.std.proofs.Common.{◌≡◌, ℕ, Bool, true, false, not, ◌&&◌, ◌||◌, refl}
 use Rattle.binary32.specs.Words.{sign_bit, is_nan}
 use Rattle.binary32.specs.Steps.{line, opposite, sum_of, product_of, quotient_of, root_of, comparison}
 use Rattle.binary32.specs.declared.step.Exact.TheVariants.{Product, Quotient, Root}

@@ -1,7 +1,7 @@
 -- Words that are no NaN stand in the same order by rank as by value.
-use Rattle.std.proofs.Common.{◌≡◌, ℕ, ◌+◌, ◌-◌, ◌*◌, ◌/◌, ◌%◌, ◌^◌, ◌<◌, ◌≤◌, Bool, true, false, cond, eqb, ltb, ◌⊎◌, sym, refl, ap, ◌∙◌, inl, inr, arith}
-use Rattle.std.proofs.lemmas.Bool.{eqb-true, eqb-false, lt-ltb, le-ltb, eq-eqb, ne_eqb, cases_order, cases_eq, cases_lt, true≢false}
-use Rattle.binary32.specs.Words.{sign_bit, magnitude_of, field_of, fraction_of, class_of, class_with, is_nan}
+use Rattle.std.proofs.Common.{◌≡◌, ℕ, ◌+◌, ◌-◌, ◌^◌, ◌<◌, ◌≤◌, Bool, true, false, cond, eqb, ltb, sym, refl, ap, ◌∙◌, inl, inr, arith}
+use Rattle.std.proofs.lemmas.Bool.{lt-ltb, le-ltb, eq-eqb, ne_eqb, cases_order, cases_eq, cases_lt, true≢false}
+use Rattle.binary32.specs.Words.{sign_bit, magnitude_of, field_of, fraction_of, class_of, is_nan}
 use Rattle.binary32.specs.Sizes.{size, level, rank_of}
 use Rattle.binary32.proofs.Sizes.{size_rises}
 

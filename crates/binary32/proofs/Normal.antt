@@ -1,14 +1,12 @@
 -- The normal form of a finite nonzero word: its bounds, and that it stands for the word's size.
-use Rattle.std.proofs.Common.{◌≡◌, ℕ, suc, ◌+◌, ◌-◌, ◌*◌, ◌/◌, ◌%◌, ◌^◌, ◌<◌, ◌≤◌, Bool, true, false, cond, eqb, ◌⊎◌, sym, refl, ap, ◌∙◌, inl, inr, mul_assoc, mul_comm, arith, pow_pos, pow-add}
-use lib.Count.{count_leading_zeros, leading_top, leading_le}
+use Rattle.std.proofs.Common.{◌≡◌, ℕ, ◌+◌, ◌-◌, ◌*◌, ◌/◌, ◌%◌, ◌^◌, ◌<◌, ◌≤◌, sym, ap, ◌∙◌, inl, inr, mul_assoc, arith, pow-add}
+use lib.Count.{count_leading_zeros, leading_top}
 use Rattle.std.proofs.lemmas.Bool.{eq-eqb, ne_eqb, cases_eq}
-use Rattle.binary32.specs.Words.{field_of, fraction_of, magnitude_of, normal_of, class_of, class_with}
+use Rattle.binary32.specs.Words.{field_of, fraction_of, magnitude_of, class_of, class_with}
 use Rattle.binary32.specs.Sizes.{size}
 pub use Rattle.binary32.specs.Normal.{Stands, Sized}
 use Rattle.binary32.specs.Normal.{Normalized}
 use Rattle.binary32.specs.declared.word.NormalForm.{NormalForm}
-use Rattle.binary32.specs.declared.word.Class.{Class}
-use Rattle.binary32.specs.declared.word.Class.TheVariants.{Nan, Infinity, Zero, Finite}
 use Rattle.binary32.proofs.Sizes.{size_small, size_large}
 use Rattle.binary32.proofs.Zeros.{lifted_below, lifted_top}
 

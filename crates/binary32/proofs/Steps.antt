@@ -1,18 +1,15 @@
 -- The normal forms of a rounded step are normalized, and in a sum the larger one comes first.
-use Rattle.std.proofs.Common.{◌≡◌, ℕ, suc, ◌+◌, ◌-◌, ◌*◌, ◌/◌, ◌%◌, ◌^◌, ◌<◌, ◌≤◌, Bool, true, false, cond, not, ◌&&◌, ◌||◌, eqb, ltb, ◌⊎◌, sym, refl, ap, ◌∙◌, subst, inl, inr, mul-le-mul_right, mul-le-mul_left, mul-lt-mul_of_pos_right, arith, pow_pos, pow_mono}
+use Rattle.std.proofs.Common.{◌≡◌, ℕ, ◌*◌, ◌^◌, ◌<◌, ◌≤◌, false, ◌&&◌, eqb, sym, refl, ap, ◌∙◌, subst, inl, inr, mul-le-mul_right, mul-lt-mul_of_pos_right, arith, pow_pos, pow_mono}
 use native.Mathlib.Nat.{pow-succ'}
-use Rattle.std.proofs.lemmas.Bool.{cases_lt, cases_eq, cases_Bool, cases_order, ltb-true, ltb-false, eqb-true, eqb-false, eq-eqb, ne_eqb, lt-ltb, le-ltb, and_from, true≢false}
-use Rattle.binary32.specs.Words.{sign_bit, magnitude_of, class_of, turned_of, is_nan}
+use Rattle.std.proofs.lemmas.Bool.{cases_lt, cases_eq, cases_Bool, eq-eqb, ne_eqb, lt-ltb, le-ltb, and_from, true≢false}
+use Rattle.binary32.specs.Words.{sign_bit, magnitude_of, class_of, turned_of}
 use Rattle.binary32.specs.Sizes.{size}
-use Rattle.binary32.specs.declared.step.Step.{Step}
-use Rattle.binary32.specs.declared.step.Step.TheVariants.{Direct, Rounded}
-use Rattle.binary32.specs.Steps.{line, opposite, rounded_sum, sum_of, product_of, quotient_of, root_of, comparison, step_of}
-use Rattle.binary32.specs.Normal.{Normalized, Ordered, Proper, ProperStep}
+use Rattle.binary32.specs.Steps.{opposite, rounded_sum, sum_of, step_of}
+use Rattle.binary32.specs.Normal.{Normalized, Ordered, ProperStep}
 use Rattle.binary32.specs.declared.operation.Operation.{Operation}
 use Rattle.binary32.specs.declared.operation.Operation.TheVariants.{Add, Subtract, Multiply, Divide, SquareRoot, Equal, Less, AtMost}
 use Rattle.binary32.specs.declared.word.NormalForm.{NormalForm}
-use Rattle.binary32.specs.declared.word.Class.{Class}
-use Rattle.binary32.specs.declared.word.Class.TheVariants.{Nan, Infinity, Zero, Finite}
+use Rattle.binary32.specs.declared.word.Class.TheVariants.{Finite}
 use Rattle.binary32.proofs.Sizes.{size_rises}
 use Rattle.binary32.proofs.Direct.{of_sum, of_product, of_quotient, of_root, of_comparison}
 use Rattle.binary32.proofs.Normal.{Stands, Sized, class_stands}

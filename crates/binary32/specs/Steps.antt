@@ -1,10 +1,9 @@
 -- The step that an operation takes on two words: direct by the first line that fits, else rounded.
-use Rattle.std.specs.Prelude.{ℕ, ◌+◌, ◌-◌, ◌^◌, Bool, true, false, cond, not, ◌&&◌, ◌||◌, ◌==◌, nat_lt}
+use Rattle.std.specs.Prelude.{ℕ, Bool, true, false, cond, not, ◌&&◌, ◌||◌, ◌==◌, nat_lt}
 use Rattle.binary32.specs.Sizes.{level}
 use Rattle.binary32.specs.Words.{sign_bit, magnitude_of, class_of, composed, turned_of, is_nan}
 use Rattle.binary32.specs.declared.operation.Operation.{Operation}
 use Rattle.binary32.specs.declared.operation.Operation.TheVariants.{Add, Subtract, Multiply, Divide, SquareRoot, Equal, Less, AtMost}
-use Rattle.binary32.specs.declared.step.Exact.{Exact}
 use Rattle.binary32.specs.declared.step.Exact.TheVariants.{Sum, Difference, Product, Quotient, Root}
 use Rattle.binary32.specs.declared.step.Step.{Step}
 use Rattle.binary32.specs.declared.step.Step.TheVariants.{Direct, Rounded}

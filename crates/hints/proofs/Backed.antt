@@ -1,19 +1,18 @@
 -- What the writer fills in backs its step.
-use Rattle.std.proofs.Common.{◌≡◌, ℕ, suc, ◌+◌, ◌-◌, ◌*◌, ◌/◌, ◌%◌, ◌^◌, ◌<◌, ◌≤◌, min, Bool, true, false, cond, ◌⊎◌, sym, refl, ap, ◌∙◌, inl, inr, arith, pow_pos, pow_mono, shr_lt}
+use Rattle.std.proofs.Common.{ℕ, ◌+◌, ◌-◌, ◌*◌, ◌/◌, ◌%◌, ◌^◌, ◌<◌, ◌≤◌, Bool, true, false, cond, sym, refl, arith, pow_pos, pow_mono, shr_lt}
 use lib.Pow.{split}
 use Rattle.std.proofs.lemmas.Nat.{div-add-mod', mod_below}
-use Rattle.std.proofs.lemmas.Bool.{cases_lt}
 use Rattle.binary32.proofs.Zeros.{lifted_below}
-use Rattle.hints.specs.Scheme.{floor_root, principal_by, principal_of, main_width, lift_of, cut_of, exponent_of, rounds_up}
+use Rattle.hints.specs.Scheme.{floor_root, principal_by, principal_of, main_width, lift_of, cut_of, rounds_up}
 use Rattle.hints.specs.Settings.{Suits, Fit}
 use Rattle.hints.specs.Backs.{rest_limit, FirstEquation, Backs}
 use Rattle.hints.specs.Writer.{rounded_with}
 use Rattle.hints.specs.declared.setting.Setting.{Setting}
 use Rattle.hints.specs.declared.setting.Kind.{Kind}
 use Rattle.hints.specs.declared.setting.Kind.TheVariants.{Sum, Difference, Product, Quotient, Root}
-use Rattle.hints.proofs.Roots.{IsRoot, digits_root}
+use Rattle.hints.proofs.Roots.{digits_root}
 use Rattle.hints.proofs.Lifts.{lift_at_most, lift_low, lift_high}
-use Rattle.hints.proofs.Principals.{Within, main_within, width_at_most, radicand_high}
+use Rattle.hints.proofs.Principals.{main_within, width_at_most, radicand_high}
 
 -- main and rest solve the first equation, and rest is within its width
 pub record Solves (k : Kind) (first second shift main rest : ℕ) : Type 0 where

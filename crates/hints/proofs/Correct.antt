@@ -1,9 +1,9 @@
 -- What backs a rounded step has the magnitude nearest to the step's exact result.
-use Rattle.std.proofs.Common.{◌≡◌, ℕ, suc, ◌+◌, ◌-◌, ◌*◌, ◌/◌, ◌%◌, ◌^◌, ◌<◌, ◌≤◌, min, Bool, true, false, cond, ◌⊎◌, sym, refl, ap, ◌∙◌, subst, inl, inr, mul-le-mul_right, mul-le-mul, mul-le-mul_left, mul-lt-mul_of_pos_right, arith, pow_pos, pow_mono, pow-add}
+use Rattle.std.proofs.Common.{◌≡◌, ℕ, ◌+◌, ◌-◌, ◌*◌, ◌^◌, ◌<◌, ◌≤◌, Bool, sym, refl, ap, ◌∙◌, subst, inl, inr, mul-le-mul_right, mul-le-mul, mul-lt-mul_of_pos_right, arith, pow_pos, pow_mono, pow-add}
 use Rattle.std.proofs.lemmas.Bool.{cases_lt}
 use Rattle.binary32.specs.Sizes.{size}
 use Rattle.binary32.specs.Words.{composed}
-use Rattle.binary32.specs.Normal.{Normalized, Ordered, Proper, ProperStep}
+use Rattle.binary32.specs.Normal.{Normalized, Proper}
 use Rattle.binary32.specs.Steps.{step_of}
 use Rattle.binary32.specs.declared.operation.Operation.{Operation}
 use Rattle.binary32.specs.declared.word.NormalForm.{NormalForm}
@@ -11,11 +11,10 @@ use Rattle.binary32.specs.declared.step.Exact.{Exact}
 use Rattle.binary32.specs.declared.step.Exact.TheVariants.{Sum, Difference, Product, Quotient, Root}
 use Rattle.binary32.specs.declared.step.Step.{Step}
 use Rattle.binary32.specs.declared.step.Step.TheVariants.{Direct, Rounded}
-use Rattle.binary32.proofs.Normal.{Stands}
 use Rattle.binary32.proofs.Steps.{step_proper}
-use Rattle.rounding.specs.Exact.{Value, ratio, root, Sound, exact_of}
-use Rattle.rounding.specs.Nearest.{top, nearest, result, result_with}
-use Rattle.rounding.specs.Cut.{Lies, Cut, Close, rounds_up}
+use Rattle.rounding.specs.Exact.{Value, ratio, Sound, exact_of}
+use Rattle.rounding.specs.Nearest.{nearest, result, result_with}
+use Rattle.rounding.specs.Cut.{Lies, Cut, Close}
 use Rattle.rounding.proofs.Close.{close_ratio, keeps_close}
 use Rattle.rounding.proofs.Cuts.{rounds_cut}
 use Rattle.rounding.proofs.Describes.{Operands, Magnitude, Describes, DescribesStep, step_describes}
@@ -29,7 +28,6 @@ use Rattle.hints.specs.declared.setting.Kind.TheVariants as kind
 use Rattle.hints.specs.declared.writer.Written.{Written}
 use Rattle.hints.proofs.Places.{lies_exactly, product_lies, sum_lies, difference_lies, quotient_lies, root_lies}
 use Rattle.hints.proofs.Principals.{radicand_low, root_low}
-use Rattle.hints.proofs.Roots.{IsRoot}
 use Rattle.hints.proofs.Settings.{setting_fits}
 
 -- where something is left over, main has at least 25 bits

@@ -1,6 +1,6 @@
 -- The lift of main: how far it is from the top of its field of 51 bits.
-use Rattle.std.proofs.Common.{◌≡◌, ℕ, suc, ◌+◌, ◌-◌, ◌*◌, ◌^◌, ◌<◌, ◌≤◌, sym, refl, ap, ◌∙◌, arith}
-use lib.Count.{count_leading_zeros, leading_top}
+use Rattle.std.proofs.Common.{◌≡◌, ℕ, suc, ◌-◌, ◌^◌, ◌<◌, ◌≤◌, arith}
+use lib.Count.{leading_top}
 use Rattle.hints.specs.Scheme.{lift_of}
 
 module _ (main : ℕ) (some : 0 < main) (fits : main < 2 ^ 51) where

@@ -1,13 +1,11 @@
 -- Where the exact result of a step lies, by the hints main and rest.
-use Rattle.std.proofs.Common.{◌≡◌, ℕ, suc, ◌+◌, ◌-◌, ◌*◌, ◌/◌, ◌%◌, ◌^◌, ◌<◌, ◌≤◌, min, ◌⊎◌, sym, refl, ap, ◌∙◌, inl, inr, mul-le-mul_right, lt_of_mul-lt-mul_right, mul-lt-mul_of_pos_right, le_of_mul-le-mul_right, arith, pow_pos, pow_mono, pow-add}
+use Rattle.std.proofs.Common.{◌≡◌, ℕ, suc, ◌+◌, ◌-◌, ◌*◌, ◌/◌, ◌^◌, ◌<◌, ◌≤◌, sym, refl, ap, ◌∙◌, lt_of_mul-lt-mul_right, mul-lt-mul_of_pos_right, le_of_mul-le-mul_right, arith, pow_pos, pow-add}
 use native.Mathlib.Nat.{eq_of_mul-eq-mul_right}
-use Rattle.binary32.specs.Normal.{Normalized, Ordered}
 use Rattle.binary32.specs.declared.word.NormalForm.{NormalForm}
 use Rattle.binary32.proofs.Normal.{Stands}
-use Rattle.rounding.specs.Exact.{Value, ratio, root}
-use Rattle.rounding.specs.Cut.{Lies, Close}
+use Rattle.rounding.specs.Exact.{ratio, root}
+use Rattle.rounding.specs.Cut.{Lies}
 use Rattle.rounding.proofs.Lies.{lies_ratio, lies_root}
-use Rattle.rounding.proofs.Close.{close_ratio}
 use Rattle.hints.specs.Settings.{alignment_of, radicand_shift}
 
 product_some : (a b : ℕ) → 0 < a → 0 < b → 0 < a * b

@@ -1,8 +1,8 @@
 -- Main is some number within its width, whatever the kind of step.
-use Rattle.std.proofs.Common.{◌≡◌, ℕ, suc, ◌+◌, ◌-◌, ◌*◌, ◌/◌, ◌%◌, ◌^◌, ◌<◌, ◌≤◌, ◌⊎◌, sym, refl, ap, ◌∙◌, inl, inr, mul-le-mul_right, mul-le-mul, mul-le-mul_left, mul-lt-mul_of_pos_right, arith, pow_pos, pow_mono}
+use Rattle.std.proofs.Common.{ℕ, ◌+◌, ◌*◌, ◌/◌, ◌^◌, ◌<◌, ◌≤◌, inl, inr, mul-le-mul, mul-le-mul_left, arith, pow_mono}
 use Rattle.std.proofs.lemmas.Bool.{cases_lt}
-use Rattle.std.proofs.lemmas.Nat.{div_below, le-div, mul-lt, mul-le, div-add-mod', mod_below}
-use Rattle.hints.specs.Scheme.{floor_root, principal_by, main_width}
+use Rattle.std.proofs.lemmas.Nat.{div_below, le-div, mul-lt}
+use Rattle.hints.specs.Scheme.{principal_by, main_width}
 use Rattle.hints.specs.Settings.{Suits}
 use Rattle.hints.specs.declared.setting.Kind.{Kind}
 use Rattle.hints.specs.declared.setting.Kind.TheVariants.{Sum, Difference, Product, Quotient, Root}

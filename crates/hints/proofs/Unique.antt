@@ -1,8 +1,8 @@
 -- One record only backs a step: main and rest by the first equation, the lift by main's binade, keep and drop by the cut.
-use Rattle.std.proofs.Common.{◌≡◌, ℕ, suc, ◌+◌, ◌-◌, ◌*◌, ◌/◌, ◌%◌, ◌^◌, ◌<◌, ◌≤◌, min, Bool, true, false, cond, ◌⊎◌, sym, refl, ap, ◌∙◌, subst, inl, inr, arith, pow_mono}
+use Rattle.std.proofs.Common.{◌≡◌, ℕ, ◌+◌, ◌-◌, ◌*◌, ◌/◌, ◌%◌, ◌^◌, ◌<◌, ◌≤◌, sym, ap, ◌∙◌, inl, inr, arith, pow_mono}
 use lib.Arith.{digits_div, digits_mod}
 use Rattle.std.proofs.lemmas.Bool.{cases_order}
-use Rattle.hints.specs.Scheme.{cut_of, exponent_of, magnitude_from, rounds_up}
+use Rattle.hints.specs.Scheme.{cut_of}
 use Rattle.hints.specs.Backs.{rest_limit, FirstEquation, Backs}
 use Rattle.hints.specs.declared.setting.Setting.{Setting}
 use Rattle.hints.specs.declared.setting.Kind.{Kind}

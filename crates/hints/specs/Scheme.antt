@@ -1,5 +1,5 @@
 -- The scheme of the six hints, over whole numbers.
-use Rattle.std.specs.Prelude.{◌≡◌, ℕ, zero, suc, ◌+◌, ◌-◌, ◌*◌, ◌/◌, ◌%◌, ◌^◌, ◌<◌, ◌≤◌, min, Bool, true, false, cond, not, ◌&&◌, ◌||◌, nat_le}
+use Rattle.std.specs.Prelude.{ℕ, zero, suc, ◌+◌, ◌-◌, ◌*◌, ◌/◌, ◌%◌, ◌^◌, min, cond, nat_le}
 use Rattle.std.specs.Int.Count.{count_leading_zeros}
 pub use Rattle.rounding.specs.Cut.{rounds_up}
 use Rattle.hints.specs.declared.setting.Setting.{Setting}

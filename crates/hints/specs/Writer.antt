@@ -1,9 +1,8 @@
 -- What the writer gives.
-use Rattle.std.specs.Prelude.{◌≡◌, ℕ, ◌+◌, ◌-◌, ◌*◌, ◌/◌, ◌%◌, ◌^◌, Bool, Some, None, Ok, Err, Option, Result}
+use Rattle.std.specs.Prelude.{◌≡◌, ℕ, ◌*◌, ◌/◌, ◌%◌, ◌^◌, Bool, Some, None, Ok, Err, Option, Result}
 use Rattle.binary32.specs.Words.{sign_bit, magnitude_of, composed}
 use Rattle.binary32.specs.Operations.{operation_of}
 use Rattle.binary32.specs.Steps.{step_of}
-use Rattle.binary32.specs.declared.word.Word.{Word}
 use Rattle.binary32.specs.declared.operation.Operation.{Operation}
 use Rattle.binary32.specs.declared.step.Step.{Step}
 use Rattle.binary32.specs.declared.step.Step.TheVariants.{Direct, Rounded}
@@ -13,7 +12,6 @@ use Rattle.hints.specs.Backs.{BacksStep}
 use Rattle.hints.specs.Settings.{setting_of}
 use Rattle.hints.specs.Scheme.{principal_of, lift_of, exponent_of, cut_of, up_of, magnitude_from}
 use Rattle.hints.specs.declared.setting.Setting.{Setting}
-use Rattle.hints.specs.declared.writer.Hints.{Hints}
 use Rattle.hints.specs.declared.writer.Written.{Written}
 use Rattle.hints.specs.declared.refusal.Refusal.{Refusal}
 use Rattle.hints.specs.declared.refusal.Refusal.TheVariants.{UnknownCode}

@@ -1,5 +1,5 @@
 -- A list of rows, row by row.
-use Rattle.std.proofs.Common.{◌≡◌, ℕ, zero, suc, ◌+◌, ◌-◌, ◌≤◌, List, Some, None, Ok, Err, Option, Result, sym, refl, ap, ◌∙◌, subst, add-zero, add-suc, add-one, arith}
+use Rattle.std.proofs.Common.{◌≡◌, ℕ, zero, suc, ◌+◌, ◌-◌, ◌≤◌, List, Some, None, Ok, Err, sym, refl, ap, ◌∙◌, subst, add-zero, add-suc, add-one, arith}
 use Rattle.sheet.specs.Calls.{Model, opened}
 use Rattle.kelfrudd.specs.Listed.{model_after, next_row, ran_to, stop_at, unless_stopped}
 use Rattle.kelfrudd.specs.declared.listed.Stop.{Stop}

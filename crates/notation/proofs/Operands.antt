@@ -1,5 +1,5 @@
 -- An operand: a space, and a word after it.
-use Rattle.std.proofs.Common.{◌≡◌, ℕ, ◌+◌, true, false, List, get_or, drop, Ok, Err, Result, sym, refl, ap}
+use Rattle.std.proofs.Common.{◌≡◌, ℕ, ◌+◌, true, false, List, get_or, drop, Err, Result, refl, ap}
 use Rattle.binary32.specs.declared.word.Word.{Word}
 use Rattle.notation.specs.declared.fault.Fault.TheVariants.{MissingWord}
 use Rattle.notation.specs.Numerals.{word_of}

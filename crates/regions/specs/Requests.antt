@@ -7,7 +7,6 @@ use Rattle.notation.specs.Lines.{placed, operand_at, and_then}
 use Rattle.notation.specs.Numerals.{word_of}
 use Rattle.notation.specs.declared.fault.Fault.{Fault}
 use Rattle.notation.specs.declared.fault.Fault.TheVariants.{TrailingText}
-use Rattle.regions.specs.declared.reading.Point.{Point}
 use Rattle.regions.specs.declared.reading.Request.{Request}
 
 abbrev pub is_forged : List ℕ → Bool

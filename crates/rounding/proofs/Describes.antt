@@ -1,9 +1,9 @@
 -- What the normal forms of a rounded step say of its exact result.
-use Rattle.std.proofs.Common.{◌≡◌, ℕ, ◌+◌, ◌-◌, ◌*◌, ◌/◌, ◌%◌, ◌^◌, ◌<◌, ◌≤◌, min, max, Bool, true, false, cond, not, ◌&&◌, ◌||◌, eqb, ltb, ◌⊎◌, sym, refl, ap, ◌∙◌, subst, inl, inr, arith}
-use Rattle.std.proofs.lemmas.Bool.{cases_Bool, cases_lt, cases_eq, lt-ltb, le-ltb}
+use Rattle.std.proofs.Common.{◌≡◌, ℕ, ◌+◌, ◌-◌, ◌*◌, ◌^◌, ◌≤◌, min, max, ◌&&◌, eqb, refl, ap, subst, inl, inr, arith}
+use Rattle.std.proofs.lemmas.Bool.{cases_Bool, cases_lt, lt-ltb, le-ltb}
 use Rattle.binary32.specs.Sizes.{size}
-use Rattle.binary32.specs.Words.{sign_bit, magnitude_of, class_of, turned_of, is_nan}
-use Rattle.binary32.specs.Steps.{line, opposite, rounded_sum, product_of, quotient_of, root_of, comparison, step_of}
+use Rattle.binary32.specs.Words.{magnitude_of, class_of, turned_of, is_nan}
+use Rattle.binary32.specs.Steps.{opposite, rounded_sum, step_of}
 use Rattle.binary32.specs.Steps.{sum_of as sum_step_of}
 use Rattle.binary32.specs.declared.operation.Operation.{Operation}
 use Rattle.binary32.specs.declared.operation.Operation.TheVariants.{Add, Subtract, Multiply, Divide, SquareRoot, Equal, Less, AtMost}
@@ -12,8 +12,7 @@ use Rattle.binary32.specs.declared.step.Exact.TheVariants.{Sum, Difference, Prod
 use Rattle.binary32.specs.declared.step.Step.{Step}
 use Rattle.binary32.specs.declared.step.Step.TheVariants.{Direct, Rounded}
 use Rattle.binary32.specs.declared.word.NormalForm.{NormalForm}
-use Rattle.binary32.specs.declared.word.Class.{Class}
-use Rattle.binary32.specs.declared.word.Class.TheVariants.{Nan, Infinity, Zero, Finite}
+use Rattle.binary32.specs.declared.word.Class.TheVariants.{Finite}
 use Rattle.binary32.proofs.Direct.{of_sum, of_product, of_quotient, of_root, of_comparison}
 use Rattle.binary32.proofs.Levels.{plain_magnitude}
 use Rattle.binary32.proofs.Normal.{Stands, Sized, class_stands}

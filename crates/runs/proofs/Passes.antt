@@ -10,7 +10,7 @@ use Rattle.hints.specs.declared.writer.Written.{Written}
 use Rattle.sheet.proofs.Found.{found_sound}
 use Rattle.sheet.specs.Calls.{Model, answer_of, cells_of, close_after, found, opened, read_reply, second_word, settle_reply_at}
 use Rattle.sheet.specs.Cells.{word_in}
-use Rattle.sheet.specs.declared.cell.State.TheVariants.{Free, Input, Pending}
+use Rattle.sheet.specs.declared.cell.State.TheVariants.{Free, Pending}
 use Rattle.runs.proofs.Follows.{stand_alike}
 use Rattle.runs.proofs.Reaches.{known_reached}
 use Rattle.runs.specs.Histories.{Claim, History, on_open, close, on_closed, accepted, closed_up, pending, status_of}

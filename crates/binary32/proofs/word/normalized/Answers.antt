@@ -1,6 +1,5 @@
-use Rattle.std.proofs.Common.{◌≡◌, ℕ, ◌+◌, ◌-◌, ◌*◌, ◌%◌, ◌^◌, ◌<◌, ap, arith}
+use Rattle.std.proofs.Common.{◌≡◌, ◌-◌, ◌*◌, ◌%◌, ◌^◌, ◌<◌, arith}
 use lib.Count.{count_leading_zeros}
-use Rattle.binary32.specs.declared.word.NormalForm.{NormalForm}
 use Rattle.binary32.proofs.Zeros.{zeros_wider, lifted_below}
 use Rattle.binary32.proofs.word.normalized.Goals as goal
 

@@ -1,4 +1,4 @@
-use Rattle.std.proofs.Common.{◌≡◌, ◌+◌, ◌-◌, ◌*◌, ◌%◌, ◌^◌, ◌<◌, ◌≤◌, ap, ◌∙◌, arith}
+use Rattle.std.proofs.Common.{◌≡◌, ◌-◌, ◌*◌, ◌%◌, ◌^◌, arith}
 use lib.Count.{count_leading_zeros}
 use Rattle.binary32.proofs.Zeros.{zeros_wider, lifted_below}
 use Rattle.hints.proofs.Lifts.{lift_at_most}

@@ -1,7 +1,7 @@
-use Rattle.std.proofs.Common.{◌≡◌, ℕ, suc, ◌+◌, ◌-◌, ◌*◌, ◌^◌, ◌<◌, sym, ap, ◌∙◌, arith}
+use Rattle.std.proofs.Common.{◌≡◌, ℕ, suc, ◌-◌, ◌*◌, ◌^◌, ◌<◌, ap, ◌∙◌, arith}
 use native.Mathlib.Nat.{pow-succ'}
 use Rattle.hints.specs.Scheme.{floor_root}
-use Rattle.hints.proofs.Roots.{Partial, IsRoot, bit_taken, bit_left, all_decided, digits_root, root_unique}
+use Rattle.hints.proofs.Roots.{Partial, bit_taken, bit_left, all_decided, digits_root, root_unique}
 use Rattle.hints.proofs.leaves.root_by_bits.Goals as goal
 
 -- 2^b is twice the bit that is decided next

@@ -1,4 +1,4 @@
-use Rattle.std.proofs.Common.{◌≡◌, ◌^◌, ◌<◌, ◌≤◌, arith, pow_mono}
+use Rattle.std.proofs.Common.{arith, pow_mono}
 use Rattle.hints.specs.Scheme.{main_width}
 use Rattle.hints.proofs.Principals.{main_within, width_at_most}
 use Rattle.hints.proofs.writer.rounded.Goals as goal

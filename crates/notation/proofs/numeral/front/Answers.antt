@@ -1,8 +1,7 @@
 -- One more digit makes the front longer by one and the number sixteen times as large; the front ends at the
 -- first byte that is no digit, at the text's end and after eight digits.
-use Rattle.std.proofs.Common.{◌≡◌, ◌+◌, ◌*◌, ◌<◌, ◌≤◌, true, false, map, length, get_or, take, drop, is_some, unwrap_or, sym, ap, subst, arith}
+use Rattle.std.proofs.Common.{◌≡◌, ◌<◌, ◌≤◌, map, length, get_or, take, is_some, unwrap_or, sym, ap, subst, arith}
 use Rattle.std.specs.Int.Digits.{number_from_digits}
-use Rattle.std.specs.List.{prefix_len}
 use Rattle.std.proofs.lemmas.List.{length-take}
 use Rattle.std.proofs.lemmas.List.Sums.{prefix_len-drop_all}
 use Rattle.notation.specs.Numerals.{is_digit, value_of}

@@ -1,4 +1,4 @@
-use Rattle.std.proofs.Common.{sym, refl, arith, rules}
+use Rattle.std.proofs.Common.{sym, rules}
 use borrow.Author.Rules.{get_or_read}
 use Rattle.std.proofs.lemmas.List.{get_or_past}
 use Rattle.regions.proofs.findings.answer_at.Goals as goal

@@ -1,4 +1,4 @@
-use Rattle.std.proofs.Common.{◌≡◌, ℕ, true, false, sym, ap, arith}
+use Rattle.std.proofs.Common.{◌≡◌, ℕ, sym, ap, arith}
 use Rattle.std.proofs.lemmas.List.{get_or_past}
 use Rattle.notation.specs.Lines.{is_space}
 use Rattle.writing.proofs.vector.is_spaced.Goals as goal
