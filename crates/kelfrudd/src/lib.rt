@@ -2,7 +2,6 @@
 #![tactic(auto)]
 
 mod checking;
-mod exports;
 mod listed;
 mod number;
 mod row;
@@ -10,6 +9,5 @@ mod whole;
 mod writing;
 
 pub use checking::check_step;
-pub use exports::{kelfrudd_check_sheet, kelfrudd_check_step, kelfrudd_write_step};
 pub use whole::check_sheet;
 pub use writing::write_step;

@@ -1,4 +1,6 @@
 // What the static library exports. Each function is one call, with the clauses of the function that it calls.
+#![tactic(auto)]
+
 ghost use Rattle.std.specs.Prelude.{◌≡◌, ◌/◌, length};
 ghost use Rattle.binary32.specs.Operations.{operation_of};
 ghost use Rattle.hints.specs.Writer.{written};
@@ -7,9 +9,7 @@ ghost use Rattle.kelfrudd.specs.Listed.{ran_to};
 ghost use Rattle.kelfrudd.specs.Whole.{concluded_in, sheet_number, sheet_places};
 ghost use Rattle.kelfrudd.specs.Written.{written_number, written_places};
 
-use crate::checking::check_step;
-use crate::whole::check_sheet;
-use crate::writing::write_step;
+use kelfrudd::{check_sheet, check_step, write_step};
 
 #[unsafe(no_mangle)]
 pub extern "C" fn kelfrudd_write_step(code: u32, first: u32, second: u32, out: &mut [u64]) -> u32
