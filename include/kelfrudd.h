@@ -1,6 +1,6 @@
 /* Kelfrudd: binary32 steps, written with their hints and checked.
  *
- * Link target/staticlib/libkelfrudd.a, which `rt staticlib kelfrudd` makes; of the C library it needs memcpy alone. docs/RULES.md has the rules and
+ * Link target/staticlib/libkelfrudd.a, which `tools/staticlib` makes; of the C library it needs memcpy and memset alone. docs/RULES.md has the rules and
  * every number. No function allocates, keeps anything between calls, or fails in any other way than by the number that it returns.
  *
  * A slice is a pointer and then a length in places of 64 bits. The pointer must not be NULL, not even with length 0, must be aligned as a
