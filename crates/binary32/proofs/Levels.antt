@@ -67,15 +67,15 @@ plain_magnitude w plain =
           absurd (true≢false (rw (whole, part) at plain))
     ]
 
-module _ (a b : ℕ) (plain-a : is_nan (class_of a) ≡ false) (plain-b : is_nan (class_of b) ≡ false) where
+module _ (a b : ℕ) (plain_a : is_nan (class_of a) ≡ false) (plain_b : is_nan (class_of b) ≡ false) where
   less : rank_of a < rank_of b → level a < level b
-  less = rank_rises (sign_bit a) (sign_bit b) (magnitude_of a) (magnitude_of b) (plain_magnitude a plain-a) (plain_magnitude b plain-b)
+  less = rank_rises (sign_bit a) (sign_bit b) (magnitude_of a) (magnitude_of b) (plain_magnitude a plain_a) (plain_magnitude b plain_b)
 
   more : rank_of b < rank_of a → level b < level a
-  more = rank_rises (sign_bit b) (sign_bit a) (magnitude_of b) (magnitude_of a) (plain_magnitude b plain-b) (plain_magnitude a plain-a)
+  more = rank_rises (sign_bit b) (sign_bit a) (magnitude_of b) (magnitude_of a) (plain_magnitude b plain_b) (plain_magnitude a plain_a)
 
   same : rank_of a ≡ rank_of b → level a ≡ level b
-  same = rank_fixes (sign_bit a) (sign_bit b) (magnitude_of a) (magnitude_of b) (plain_magnitude a plain-a) (plain_magnitude b plain-b)
+  same = rank_fixes (sign_bit a) (sign_bit b) (magnitude_of a) (magnitude_of b) (plain_magnitude a plain_a) (plain_magnitude b plain_b)
 
   pub rank_less : ltb (rank_of a) (rank_of b) ≡ ltb (level a) (level b)
   rank_less =

@@ -14,15 +14,15 @@ use Rattle.binary32.proofs.Sizes.{size_rises}
 use Rattle.binary32.proofs.Direct.{of_sum, of_product, of_quotient, of_root, of_comparison}
 use Rattle.binary32.proofs.Normal.{Stands, Sized, class_stands}
 
-module _ (x y : NormalForm) (s t : ℕ) (normal-x : Normalized x) (normal-y : Normalized y) (stands-x : Stands x s) (stands-y : Stands y t) where
+module _ (x y : NormalForm) (s t : ℕ) (normal_x : Normalized x) (normal_y : Normalized y) (stands_x : Stands x s) (stands_y : Stands y t) where
   -- the value with the smaller exponent is smaller
   exponent_decides : x.exponent < y.exponent → s < t
   exponent_decides less =
       let p = 2 ^ x.exponent in
       let q = 2 ^ y.exponent in
       let next : 2 * p ≤ q = rw (← pow-succ' 2 x.exponent) (pow_mono less) in
-      let above : x.significand * p < 2 ^ 24 * p = mul-lt-mul_of_pos_right normal-x.high (pow_pos x.exponent) in
-      let below : 2 ^ 23 * q ≤ y.significand * q = mul-le-mul_right q normal-y.low in
+      let above : x.significand * p < 2 ^ 24 * p = mul-lt-mul_of_pos_right normal_x.high (pow_pos x.exponent) in
+      let below : 2 ^ 23 * q ≤ y.significand * q = mul-le-mul_right q normal_y.low in
       omega arith
 
   -- at one exponent the larger value has the larger significand
@@ -32,20 +32,20 @@ module _ (x y : NormalForm) (s t : ℕ) (normal-x : Normalized x) (normal-y : No
       let e : y.significand * 2 ^ x.exponent ≡ y.significand * 2 ^ y.exponent = ap (λ n. y.significand * 2 ^ n) same in
       omega arith
 
-module _ (x y : NormalForm) (s t : ℕ) (normal-x : Normalized x) (normal-y : Normalized y) (stands-x : Stands x s) (stands-y : Stands y t) where
+module _ (x y : NormalForm) (s t : ℕ) (normal_x : Normalized x) (normal_y : Normalized y) (stands_x : Stands x s) (stands_y : Stands y t) where
   -- strictly larger at one exponent: a strictly larger significand
   pub larger_significand : t < s → x.exponent ≡ y.exponent → y.significand < x.significand
   larger_significand less same =
       elim (cases_lt y.significand x.significand) [
         | inl h ↦ h
-        | inr h ↦ absurd (omega (arith, significand_decides x y s t normal-x normal-y stands-x stands-y same h))
+        | inr h ↦ absurd (omega (arith, significand_decides x y s t normal_x normal_y stands_x stands_y same h))
       ]
 
   pub larger_first : t ≤ s → Ordered x y
   larger_first less = record {
     exponents =
         elim (cases_lt x.exponent y.exponent) [
-          | inl h ↦ absurd (omega (arith, exponent_decides x y s t normal-x normal-y stands-x stands-y h))
+          | inl h ↦ absurd (omega (arith, exponent_decides x y s t normal_x normal_y stands_x stands_y h))
           | inr h ↦ h
         ];
     significands = λ same.
@@ -63,9 +63,9 @@ module _ (x y : NormalForm) (s t : ℕ) (normal-x : Normalized x) (normal-y : No
 -- a sum of two finite words that do not cancel, the first of no smaller magnitude
 proper_rounded : (a b : ℕ) (x y : NormalForm) → Sized (Finite x) (size (magnitude_of a)) → Sized (Finite y) (size (magnitude_of b)) →
     magnitude_of b ≤ magnitude_of a → ((eqb (magnitude_of a) (magnitude_of b) && opposite a b) ≡ false) → ProperStep (rounded_sum a b x y)
-proper_rounded a b x y sized-x sized-y larger kept =
+proper_rounded a b x y sized_x sized_y larger kept =
     elim (cases_Bool (opposite a b)) [
-      | inr same ↦ rw same (sized-x.0, sized-y.0, ordered)
+      | inr same ↦ rw same (sized_x.0, sized_y.0, ordered)
       | inl apart ↦
           let strict : magnitude_of b < magnitude_of a =
           elim (cases_eq (magnitude_of a) (magnitude_of b)) [
@@ -73,14 +73,14 @@ proper_rounded a b x y sized-x sized-y larger kept =
             | inr ne ↦ omega arith
           ] in
           let less = size_rises (magnitude_of b) (magnitude_of a) strict in
-          rw apart (sized-x.0, sized-y.0, ordered, larger_significand x y _ _ sized-x.0 sized-y.0 sized-x.1 sized-y.1 less)
+          rw apart (sized_x.0, sized_y.0, ordered, larger_significand x y _ _ sized_x.0 sized_y.0 sized_x.1 sized_y.1 less)
     ] where
       ordered : Ordered x y
       ordered =
           elim (cases_eq (magnitude_of a) (magnitude_of b)) [
-            | inl e ↦ larger_first x y _ _ sized-x.0 sized-y.0 sized-x.1 sized-y.1 (omega (arith, ap size e))
+            | inl e ↦ larger_first x y _ _ sized_x.0 sized_y.0 sized_x.1 sized_y.1 (omega (arith, ap size e))
             | inr ne ↦
-                larger_first x y _ _ sized-x.0 sized-y.0 sized-x.1 sized-y.1
+                larger_first x y _ _ sized_x.0 sized_y.0 sized_x.1 sized_y.1
                 (omega (arith, size_rises (magnitude_of b) (magnitude_of a) (omega arith)))
           ]
 
@@ -99,14 +99,14 @@ cancel_comm a b =
     ]
 
 proper_finite : (a b : ℕ) (x y : NormalForm) → Sized (Finite x) (size (magnitude_of a)) → Sized (Finite y) (size (magnitude_of b)) → ProperStep (sum_of a b (Finite x) (Finite y))
-proper_finite a b x y sized-x sized-y =
+proper_finite a b x y sized_x sized_y =
     elim (cases_Bool (eqb (magnitude_of a) (magnitude_of b) && opposite a b)) [
       | inl cancels ↦ rw cancels tt
       | inr kept ↦
           elim (cases_lt (magnitude_of a) (magnitude_of b)) [
             | inl less ↦
-                rw (kept, lt-ltb _ _ less) (proper_rounded b a y x sized-y sized-x (omega arith) (cancel_comm a b ∙ kept))
-            | inr more ↦ rw (kept, le-ltb _ _ more) (proper_rounded a b x y sized-x sized-y more kept)
+                rw (kept, lt-ltb _ _ less) (proper_rounded b a y x sized_y sized_x (omega arith) (cancel_comm a b ∙ kept))
+            | inr more ↦ rw (kept, le-ltb _ _ more) (proper_rounded a b x y sized_x sized_y more kept)
           ]
     ]
 

@@ -130,7 +130,8 @@ fn rank(w: Word) -> u32
 
 // Whether `a` is less than `b`, and whether they are equal, for words that are no NaN.
 fn order(a: Word, b: Word) -> (bool, bool)
-    requires { (is_nan (class_of a.bits) ≡ false) × (is_nan (class_of b.bits) ≡ false) }
+    requires first { is_nan (class_of a.bits) ≡ false }
+    requires second { is_nan (class_of b.bits) ≡ false }
     ensures less { result.0 ≡ nat_lt (level a.bits) (level b.bits) }
     ensures equal { result.1 ≡ (level a.bits == level b.bits) }
 {

@@ -29,7 +29,8 @@ pub enum Class {
 
 // `width` bits of `bits`, from bit `low` up.
 fn part(bits: u32, low: u32, width: u32) -> u32
-    requires { (low < 32) × (width < 32) }
+    requires low_fits { low < 32 }
+    requires width_fits { width < 32 }
     ensures { result ≡ bits / 2 ^ low % 2 ^ width }
 {
     (bits >> low) & ((1 << width) - 1)
@@ -37,7 +38,8 @@ fn part(bits: u32, low: u32, width: u32) -> u32
 
 // The normal form of a subnormal, whose fraction is not 0: its highest bit is moved up to bit 23.
 fn normalized(fraction: u32) -> NormalForm
-    requires { (0 < fraction) × (fraction < 2 ^ 23) }
+    requires some { 0 < fraction }
+    requires fits { fraction < 2 ^ 23 }
     ensures { result ≡ normal_of 0 fraction }
 {
     let zeros = fraction.leading_zeros() - 8;
@@ -49,7 +51,8 @@ fn normalized(fraction: u32) -> NormalForm
 
 // The class of a word with this exponent field and this fraction.
 fn class_of(field: u32, fraction: u32) -> Class
-    requires { (field < 256) × (fraction < 2 ^ 23) }
+    requires field_fits { field < 256 }
+    requires fraction_fits { fraction < 2 ^ 23 }
     ensures { result ≡ class_with field fraction }
 {
     if field == 255 {

@@ -90,7 +90,8 @@ pub(crate) fn first_equation(setting: Setting, hints: Hints) -> Equation
 
 // The second equation cuts main, moved up by its lift, into keep and drop at bit `k`.
 pub(crate) fn second_equation(k: u32, hints: Hints) -> Equation
-    requires { (k ≤ 52) × (hints.lift ≤ 50) }
+    requires cut_bound { k ≤ 52 }
+    requires lift_bound { hints.lift ≤ 50 }
     ensures { result ≡ second_equation k hints }
 {
     let lifted = power(hints.lift as u32);

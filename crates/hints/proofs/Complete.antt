@@ -38,11 +38,11 @@ step_backed op a b = backs_for (step_of op a b) (step_proper op a b)
 
 -- and nothing else does
 pub step_unique : (step : Step) (v w : Written) → BacksStep step v → BacksStep step w → v ≡ w
-step_unique (Direct d) v w backs-v backs-w =
-    let h = backs-v.1 in
-    let g = backs-w.1 in
+step_unique (Direct d) v w backs_v backs_w =
+    let h = backs_v.1 in
+    let g = backs_w.1 in
     λ i. record {
-      word = (backs-v.0 ∙ sym backs-w.0) i;
+      word = (backs_v.0 ∙ sym backs_w.0) i;
       hints = record {
         main = (h.no_main ∙ sym g.no_main) i;
         rest = (h.no_rest ∙ sym g.no_rest) i;
@@ -52,7 +52,7 @@ step_unique (Direct d) v w backs-v backs-w =
         up = (h.no_up ∙ sym g.no_up) i;
       };
     }
-step_unique (Rounded negative x) v w backs-v backs-w = backs_unique (setting_of negative x) v w backs-v backs-w
+step_unique (Rounded negative x) v w backs_v backs_w = backs_unique (setting_of negative x) v w backs_v backs_w
 
 -- the scheme's record has the result as its word
 pub scheme_is_written : (op : Operation) (a b : ℕ) → written_for (step_of op a b) ≡ written_step op a b
@@ -76,7 +76,7 @@ nearest_for op a b (Rounded negative x) is =
     let sound = sound_exact op a b negative x is in
     let near = is_nearest V sound in
     let magnitude = composed_magnitude negative (nearest V) near.candidate in
-    (composed_sign negative (nearest V), rw magnitude near, λ m nearest-m. unique V m (nearest V) sound nearest-m near ∙ sym magnitude)
+    (composed_sign negative (nearest V), rw magnitude near, λ m nearest_m. unique V m (nearest V) sound nearest_m near ∙ sym magnitude)
 
 pub nearest_written : (op : Operation) (a b : ℕ) → NearestWord (step_of op a b) (exact_of op a b) (written_step op a b).word.bits
 nearest_written op a b = nearest_for op a b (step_of op a b) refl

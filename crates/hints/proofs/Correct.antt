@@ -65,11 +65,11 @@ module _ (σ : Setting) (w : Written) (fit : Fit σ) (backs : Backs σ w) where
       let fits = backs.lift_width in
       let low_sum : (50 - l) + l ≡ 50 = omega arith in
       let high_sum : (51 - l) + l ≡ 51 = omega arith in
-      let low-power : 2 ^ (50 - l) * p ≡ 2 ^ 50 = sym (pow-add 2 (50 - l) l) ∙ ap (λ n. 2 ^ n) low_sum in
-      let high-power : 2 ^ (51 - l) * p ≡ 2 ^ 51 = sym (pow-add 2 (51 - l) l) ∙ ap (λ n. 2 ^ n) high_sum in
+      let low_power : 2 ^ (50 - l) * p ≡ 2 ^ 50 = sym (pow-add 2 (50 - l) l) ∙ ap (λ n. 2 ^ n) low_sum in
+      let high_power : 2 ^ (51 - l) * p ≡ 2 ^ 51 = sym (pow-add 2 (51 - l) l) ∙ ap (λ n. 2 ^ n) high_sum in
       record {
-        high = rw low-power at (mul-le-mul_right p backs.lift_low);
-        low = rw high-power at (mul-lt-mul_of_pos_right backs.lift_high (pow_pos l));
+        high = rw low_power at (mul-le-mul_right p backs.lift_low);
+        low = rw high_power at (mul-lt-mul_of_pos_right backs.lift_high (pow_pos l));
         spacing = refl;
         place = refl;
         parts = backs.second_balance;
@@ -88,12 +88,12 @@ module _ (σ : Setting) (w : Written) (fit : Fit σ) (backs : Backs σ w) where
       (cut_of σ.scale w.hints.lift) w.hints.keep w.hints.drop w.hints.up sound lies backs_cut
 
 -- a sum or a difference whose smaller operand is more than 26 binades below: the larger one is nearest
-module _ (x y : NormalForm) (s t : ℕ) (normal-x : Normalized x) (normal-y : Normalized y) (operands : Operands x y s t) (far : y.exponent + 27 ≤ x.exponent) where
+module _ (x y : NormalForm) (s t : ℕ) (normal_x : Normalized x) (normal_y : Normalized y) (operands : Operands x y s t) (far : y.exponent + 27 ≤ x.exponent) where
   distant : 2 ^ 27 * 2 ^ y.exponent ≤ 2 ^ x.exponent
   distant = rw (← pow-add 2 27 y.exponent) (pow_mono {i = 27 + y.exponent} {j = x.exponent} (omega arith))
 
   tiny : y.significand * 2 ^ y.exponent < 2 ^ 24 * 2 ^ y.exponent
-  tiny = mul-lt-mul_of_pos_right normal-y.high (pow_pos y.exponent)
+  tiny = mul-lt-mul_of_pos_right normal_y.high (pow_pos y.exponent)
 
   far_sum : Close (ratio (s + t) 1) x.significand (x.exponent + 202)
   far_sum =
@@ -143,12 +143,12 @@ far_nearest : (σ : Setting) (w : Written) (fit : Fit σ) (backs : Backs σ w) (
     (place : Magnitude s) → size place.at * 2 ^ 251 ≡ m * 2 ^ 26 * 2 ^ σ.scale → Sound V → Close V m σ.scale →
     Close (standing w.hints.main σ.scale) m σ.scale → nearest V ≡ given σ w fit backs
 unfolding standing
-far_nearest σ w fit backs V m s none low place sized sound close close-main =
+far_nearest σ w fit backs V m s none low place sized sound close close_main =
     let S = σ.scale in
     let stood = standing w.hints.main S in
     let some : Sound stood = omega arith in
     keeps_close V place.at m S sound place.candidate low sized close
-    ∙ sym (keeps_close stood place.at m S some place.candidate low sized close-main)
+    ∙ sym (keeps_close stood place.at m S some place.candidate low sized close_main)
     ∙ lies_nearest σ w fit backs stood some (rw none (standing_lies w.hints.main S))
 
 pub scheme_nearest : (negative : Bool) (x : Exact) (V : Value) (w : Written) → Proper x → Describes x V → Sound V →
@@ -162,11 +162,11 @@ scheme_nearest negative (Sum x y) V w proper (s, t, operands, place, is) sound f
           (rw (is, none, ← backs.first_balance) (sum_lies x y s t operands.first operands.second (omega arith) ordered))
       | inr far ↦
           let off = cut_off x y s t proper.0 proper.1 operands far in
-          let main-is : x.significand * 2 ^ 26 + y.significand ≡ w.hints.main = omega (arith, rw off at backs.first_balance) in
+          let main_is : x.significand * 2 ^ 26 + y.significand ≡ w.hints.main = omega (arith, rw off at backs.first_balance) in
           far_nearest (setting_of negative (Sum x y)) w fit backs V x.significand s none proper.0.low place
           (far_size x y s t proper.0 proper.1 operands far place) sound
           (rw is (far_sum x y s t proper.0 proper.1 operands far))
-          (standing_close_sum x.significand y.significand w.hints.main (x.exponent + 202) proper.1.high main-is)
+          (standing_close_sum x.significand y.significand w.hints.main (x.exponent + 202) proper.1.high main_is)
     ]
 scheme_nearest negative (Difference x y) V w proper (s, t, operands, place, is) sound fit backs =
     let none = no_rest w.hints.rest backs.rest_width in
@@ -177,11 +177,11 @@ scheme_nearest negative (Difference x y) V w proper (s, t, operands, place, is) 
           (rw (is, none) (difference_lies x y s t operands.first operands.second w.hints.main (omega arith) ordered backs.first_balance))
       | inr far ↦
           let off = cut_off x y s t proper.0 proper.1 operands far in
-          let main-is : w.hints.main + y.significand ≡ x.significand * 2 ^ 26 = omega (arith, rw off at backs.first_balance) in
+          let main_is : w.hints.main + y.significand ≡ x.significand * 2 ^ 26 = omega (arith, rw off at backs.first_balance) in
           far_nearest (setting_of negative (Difference x y)) w fit backs V x.significand s none proper.0.low place
           (far_size x y s t proper.0 proper.1 operands far place) sound
           (rw is (far_difference x y s t proper.0 proper.1 operands far))
-          (standing_close_difference x.significand y.significand w.hints.main (x.exponent + 202) proper.1.high main-is)
+          (standing_close_difference x.significand y.significand w.hints.main (x.exponent + 202) proper.1.high main_is)
     ]
 scheme_nearest negative (Product x y) V w proper (s, t, operands, is) sound fit backs =
     let none = no_rest w.hints.rest backs.rest_width in

@@ -18,7 +18,7 @@ lies_exactly n d main S divides same =
     (omega (arith, product_some (2 ^ S) d (pow_pos S) divides))
     (λ none. same) (λ some. absurd (some refl))
 
-module _ (x y : NormalForm) (s t : ℕ) (stands-x : Stands x s) (stands-y : Stands y t) where
+module _ (x y : NormalForm) (s t : ℕ) (stands_x : Stands x s) (stands_y : Stands y t) where
   pub product_lies : Lies (ratio (s * t) (2 ^ 149)) (x.significand * y.significand) 0 (x.exponent + y.exponent + 56)
   product_lies =
       let p = 2 ^ x.exponent in
@@ -26,7 +26,7 @@ module _ (x y : NormalForm) (s t : ℕ) (stands-x : Stands x s) (stands-y : Stan
       let powers : 2 ^ (x.exponent + y.exponent + 56) ≡ p * q * 2 ^ 56 =
       pow-add 2 (x.exponent + y.exponent) 56 ∙ ap (λ n. n * 2 ^ 56) (pow-add 2 x.exponent y.exponent) in
       let both : s * t * 2 ^ 46 ≡ x.significand * p * (y.significand * q) =
-      omega (arith, ap (λ n. n * (t * 2 ^ 23)) stands-x, ap (λ n. x.significand * p * n) stands-y) in
+      omega (arith, ap (λ n. n * (t * 2 ^ 23)) stands_x, ap (λ n. x.significand * p * n) stands_y) in
       lies_exactly (s * t) (2 ^ 149) (x.significand * y.significand) (x.exponent + y.exponent + 56) (omega arith)
       (rw powers (omega arith))
 
@@ -63,7 +63,7 @@ module _ (x y : NormalForm) (s t : ℕ) (stands-x : Stands x s) (stands-y : Stan
       let level : S + y.exponent ≡ x.exponent + 374 = omega arith in
       let powers : 2 ^ S * q ≡ p * 2 ^ 374 = sym (pow-add 2 S y.exponent) ∙ ap (λ n. 2 ^ n) level ∙ pow-add 2 x.exponent 374 in
       let one : 2 ^ S * t * 2 ^ 23 ≡ d * (p * 2 ^ 374) =
-      omega (arith, ap (λ n. 2 ^ S * n) stands-y, ap (λ n. d * n) powers) in
+      omega (arith, ap (λ n. 2 ^ S * n) stands_y, ap (λ n. d * n) powers) in
       let low : main * 2 ^ S * t * 2 ^ 23 ≡ main * d * p * 2 ^ 374 = omega (arith, ap (λ n. main * n) one) in
       let value : s * 2 ^ 400 * 2 ^ 23 ≡ (main * d + rest) * p * 2 ^ 374 =
       omega (arith, ap (λ n. n * p) equation) in
@@ -74,7 +74,7 @@ module _ (x y : NormalForm) (s t : ℕ) (stands-x : Stands x s) (stands-y : Stan
 
 -- a root, with its powers of two as any numbers
 module _ (main rest s m z f p A B C K : ℕ) (powers : z * z * f ≡ p * K) (stands : s * C ≡ m * p) (equation : m * f ≡ main * main + rest)
-    (scale : K * C ≡ A * B) (some-f : 0 < f * C) (some-p : 0 < p * (A * B)) where
+    (scale : K * C ≡ A * B) (some_f : 0 < f * C) (some_p : 0 < p * (A * B)) where
   scaled_square : (r : ℕ) → r * z * (r * z) * (f * C) ≡ r * r * (p * (A * B))
   scaled_square r = omega (arith, ap (λ n. r * r * C * n) powers, ap (λ n. r * r * p * n) scale)
 
@@ -82,21 +82,21 @@ module _ (main rest s m z f p A B C K : ℕ) (powers : z * z * f ≡ p * K) (sta
   scaled_value = omega (arith, ap (λ n. A * B * f * n) stands, ap (λ n. p * A * B * n) equation)
 
   root_least : main * z * (main * z) ≤ s * A * B
-  root_least = le_of_mul-le-mul_right {k = f * C} (omega (arith, scaled_square main, scaled_value)) some-f
+  root_least = le_of_mul-le-mul_right {k = f * C} (omega (arith, scaled_square main, scaled_value)) some_f
 
   root_most : rest < 2 * main + 1 → s * A * B < suc main * z * (suc main * z)
   root_most width =
-      let short : (main * main + rest) * (p * (A * B)) < suc main * suc main * (p * (A * B)) = mul-lt-mul_of_pos_right (omega arith) some-p in
+      let short : (main * main + rest) * (p * (A * B)) < suc main * suc main * (p * (A * B)) = mul-lt-mul_of_pos_right (omega arith) some_p in
       lt_of_mul-lt-mul_right (f * C) (omega (arith, scaled_square (suc main), scaled_value))
 
   root_exact : rest ≡ 0 → main * z * (main * z) ≡ s * A * B
   root_exact none =
-      eq_of_mul-eq-mul_right (f * C) some-f (main * z * (main * z)) (s * A * B)
+      eq_of_mul-eq-mul_right (f * C) some_f (main * z * (main * z)) (s * A * B)
       (omega (arith, scaled_square main, scaled_value, ap (λ n. n * (p * (A * B))) none))
 
   root_inexact : (rest ≡ 0 → ⊥) → main * z * (main * z) < s * A * B
   root_inexact some =
-      let more : 0 * (p * (A * B)) < rest * (p * (A * B)) = mul-lt-mul_of_pos_right {m = 0} {n = rest} {k = p * (A * B)} (omega arith) some-p in
+      let more : 0 * (p * (A * B)) < rest * (p * (A * B)) = mul-lt-mul_of_pos_right {m = 0} {n = rest} {k = p * (A * B)} (omega arith) some_p in
       lt_of_mul-lt-mul_right (f * C) (omega (arith, scaled_square main, scaled_value))
 
 module _ (x : NormalForm) (s : ℕ) (stands : Stands x s) where
@@ -109,10 +109,10 @@ module _ (x : NormalForm) (s : ℕ) (stands : Stands x s) where
       let level : S + S + radicand_shift x ≡ x.exponent + 628 = omega arith in
       let powers : 2 ^ S * 2 ^ S * f ≡ p * 2 ^ 628 =
       ap (λ n. n * f) (sym (pow-add 2 S S)) ∙ sym (pow-add 2 (S + S) (radicand_shift x)) ∙ ap (λ n. 2 ^ n) level ∙ pow-add 2 x.exponent 628 in
-      let some-f : 0 < f * 2 ^ 23 = omega (arith, pow_pos (radicand_shift x)) in
-      let some-p : 0 < p * (2 ^ 149 * 2 ^ 502) = product_some p (2 ^ 149 * 2 ^ 502) (pow_pos x.exponent) (pow_pos 651) in
+      let some_f : 0 < f * 2 ^ 23 = omega (arith, pow_pos (radicand_shift x)) in
+      let some_p : 0 < p * (2 ^ 149 * 2 ^ 502) = product_some p (2 ^ 149 * 2 ^ 502) (pow_pos x.exponent) (pow_pos 651) in
       lies_root (s * 2 ^ 149) main rest S
-      (root_least main rest s x.significand (2 ^ S) f p (2 ^ 149) (2 ^ 502) (2 ^ 23) (2 ^ 628) powers stands equation refl some-f some-p)
-      (root_most main rest s x.significand (2 ^ S) f p (2 ^ 149) (2 ^ 502) (2 ^ 23) (2 ^ 628) powers stands equation refl some-f some-p width)
-      (root_exact main rest s x.significand (2 ^ S) f p (2 ^ 149) (2 ^ 502) (2 ^ 23) (2 ^ 628) powers stands equation refl some-f some-p)
-      (root_inexact main rest s x.significand (2 ^ S) f p (2 ^ 149) (2 ^ 502) (2 ^ 23) (2 ^ 628) powers stands equation refl some-f some-p)
+      (root_least main rest s x.significand (2 ^ S) f p (2 ^ 149) (2 ^ 502) (2 ^ 23) (2 ^ 628) powers stands equation refl some_f some_p)
+      (root_most main rest s x.significand (2 ^ S) f p (2 ^ 149) (2 ^ 502) (2 ^ 23) (2 ^ 628) powers stands equation refl some_f some_p width)
+      (root_exact main rest s x.significand (2 ^ S) f p (2 ^ 149) (2 ^ 502) (2 ^ 23) (2 ^ 628) powers stands equation refl some_f some_p)
+      (root_inexact main rest s x.significand (2 ^ S) f p (2 ^ 149) (2 ^ 502) (2 ^ 23) (2 ^ 628) powers stands equation refl some_f some_p)

@@ -10,11 +10,11 @@ pub record IsRoot (n r : ℕ) : Type 0 where
   pub above : n < (r + 1) * (r + 1)
 
 pub root_unique : (n r s : ℕ) → IsRoot n r → IsRoot n s → r ≡ s
-root_unique n r s is-r is-s =
+root_unique n r s is_r is_s =
     elim (cases_order r s) [
       | inl same ↦ same
-      | inr (inl less) ↦ absurd (omega (arith, mul-le-mul {n₁ = r + 1} {m₁ = r + 1} {n₂ = s} {m₂ = s} (omega arith) (omega arith), is-r.above, is-s.below))
-      | inr (inr more) ↦ absurd (omega (arith, mul-le-mul {n₁ = s + 1} {m₁ = s + 1} {n₂ = r} {m₂ = r} (omega arith) (omega arith), is-r.below, is-s.above))
+      | inr (inl less) ↦ absurd (omega (arith, mul-le-mul {n₁ = r + 1} {m₁ = r + 1} {n₂ = s} {m₂ = s} (omega arith) (omega arith), is_r.above, is_s.below))
+      | inr (inr more) ↦ absurd (omega (arith, mul-le-mul {n₁ = s + 1} {m₁ = s + 1} {n₂ = r} {m₂ = r} (omega arith) (omega arith), is_r.below, is_s.above))
     ]
 
 pub digits_root : (b n : ℕ) → n < 4 ^ b → IsRoot n (floor_root b n)

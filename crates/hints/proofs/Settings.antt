@@ -10,7 +10,7 @@ use Rattle.hints.specs.Settings.{setting_of, alignment_of, Fit}
 -- the smaller operand of a difference stays below the larger
 smaller : (x y : NormalForm) → Normalized x → Normalized y → Ordered x y → (x.exponent ≡ y.exponent → y.significand < x.significand) →
     y.significand * 2 ^ alignment_of x y < x.significand * 2 ^ 26
-smaller x y normal-x normal-y ordered strict =
+smaller x y normal_x normal_y ordered strict =
     elim (cases_eq x.exponent y.exponent) [
       | inl same ↦
           let whole : alignment_of x y ≡ 26 = omega arith in
@@ -20,7 +20,7 @@ smaller x y normal-x normal-y ordered strict =
           let near : alignment_of x y ≤ 25 = omega (arith, ordered.exponents) in
           let wider : y.significand * 2 ^ alignment_of x y ≤ y.significand * 2 ^ 25 =
           mul-le-mul_left y.significand (pow_mono {i = alignment_of x y} {j = 25} near) in
-          omega (arith, normal-x.low, normal-y.high)
+          omega (arith, normal_x.low, normal_y.high)
     ]
 
 pub setting_fits : (n : Bool) (x : Exact) → Proper x → Fit (setting_of n x)

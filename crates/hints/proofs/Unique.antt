@@ -35,7 +35,7 @@ principal_unique Root first second shift main rest main' rest' equation width eq
 
 -- a number lies in one binade only
 lift_unique : (main l m : ℕ) → l ≤ 50 → m ≤ 50 → 2 ^ (50 - l) ≤ main → main < 2 ^ (51 - l) → 2 ^ (50 - m) ≤ main → main < 2 ^ (51 - m) → l ≡ m
-lift_unique main l m l-fits m-fits l-low l-high m-low m-high =
+lift_unique main l m l_fits m_fits l_low l_high m_low m_high =
     elim (cases_order l m) [
       | inl same ↦ same
       | inr (inl less) ↦ absurd (omega (arith, pow_mono {i = 51 - m} {j = 50 - l} (omega arith)))
@@ -43,31 +43,31 @@ lift_unique main l m l-fits m-fits l-low l-high m-low m-high =
     ]
 
 pub backs_unique : (σ : Setting) (v w : Written) → Backs σ v → Backs σ w → v ≡ w
-backs_unique σ v w backs-v backs-w =
+backs_unique σ v w backs_v backs_w =
     let S = σ.scale in
     let h = v.hints in
     let g = w.hints in
     let principal = principal_unique σ.kind σ.first σ.second σ.shift h.main h.rest g.main g.rest
-    backs-v.first_balance backs-v.rest_width backs-w.first_balance backs-w.rest_width in
-    let main-same = principal.0 in
-    let rest-same = principal.1 in
-    let low : 2 ^ (50 - g.lift) ≤ h.main = rw main-same backs-w.lift_low in
-    let high : h.main < 2 ^ (51 - g.lift) = rw main-same backs-w.lift_high in
-    let lift-same : h.lift ≡ g.lift =
-    lift_unique h.main h.lift g.lift backs-v.lift_width backs-w.lift_width backs-v.lift_low backs-v.lift_high low high in
-    let k-same : cut_of S h.lift ≡ cut_of S g.lift = ap (cut_of S) lift-same in
-    let product-same : h.main * 2 ^ h.lift ≡ g.main * 2 ^ g.lift = rw (main-same, lift-same) in
-    let drop-small : h.drop < 2 ^ cut_of S g.lift = rw (← lift-same) backs-v.drop_width in
+    backs_v.first_balance backs_v.rest_width backs_w.first_balance backs_w.rest_width in
+    let main_same = principal.0 in
+    let rest_same = principal.1 in
+    let low : 2 ^ (50 - g.lift) ≤ h.main = rw main_same backs_w.lift_low in
+    let high : h.main < 2 ^ (51 - g.lift) = rw main_same backs_w.lift_high in
+    let lift_same : h.lift ≡ g.lift =
+    lift_unique h.main h.lift g.lift backs_v.lift_width backs_w.lift_width backs_v.lift_low backs_v.lift_high low high in
+    let k_same : cut_of S h.lift ≡ cut_of S g.lift = ap (cut_of S) lift_same in
+    let product_same : h.main * 2 ^ h.lift ≡ g.main * 2 ^ g.lift = rw (main_same, lift_same) in
+    let drop_small : h.drop < 2 ^ cut_of S g.lift = rw (← lift_same) backs_v.drop_width in
     let equal : h.keep * 2 ^ cut_of S g.lift + h.drop ≡ g.keep * 2 ^ cut_of S g.lift + g.drop =
-    ap (λ k. h.keep * 2 ^ k + h.drop) (sym k-same) ∙ sym backs-v.second_balance ∙ product-same ∙ backs-w.second_balance in
-    let parts = euclid_unique (2 ^ cut_of S g.lift) h.keep h.drop g.keep g.drop drop-small backs-w.drop_width equal in
+    ap (λ k. h.keep * 2 ^ k + h.drop) (sym k_same) ∙ sym backs_v.second_balance ∙ product_same ∙ backs_w.second_balance in
+    let parts = euclid_unique (2 ^ cut_of S g.lift) h.keep h.drop g.keep g.drop drop_small backs_w.drop_width equal in
     let keep_same = parts.0 in
-    let drop-same = parts.1 in
+    let drop_same = parts.1 in
     let up_same : h.up ≡ g.up =
-    backs-v.up_rule ∙ rw (lift-same, rest-same, keep_same, drop-same) (sym backs-w.up_rule) in
+    backs_v.up_rule ∙ rw (lift_same, rest_same, keep_same, drop_same) (sym backs_w.up_rule) in
     let word_same : v.word.bits ≡ w.word.bits =
-    backs-v.word_is ∙ rw (lift-same, keep_same, up_same) (sym backs-w.word_is) in
+    backs_v.word_is ∙ rw (lift_same, keep_same, up_same) (sym backs_w.word_is) in
     λ i. record {
       word = record { bits = word_same i };
-      hints = record { main = main-same i; rest = rest-same i; lift = lift-same i; keep = keep_same i; drop = drop-same i; up = up_same i };
+      hints = record { main = main_same i; rest = rest_same i; lift = lift_same i; keep = keep_same i; drop = drop_same i; up = up_same i };
     }

@@ -12,7 +12,8 @@ pub(crate) fn power(k: u32) -> u64
 
 // A significand moved up by `by` bits.
 pub(crate) fn moved_up(significand: u64, by: u32) -> u64
-    requires { (significand < 2 ^ 24) × (by ≤ 27) }
+    requires fits { significand < 2 ^ 24 }
+    requires bound { by ≤ 27 }
     ensures value { result ≡ significand * 2 ^ by }
     ensures bound { result < 2 ^ 51 }
 {
@@ -48,7 +49,9 @@ fn root_by_bits(radicand: u64) -> (u64, u64)
 
 // One step of Newton's rule towards the root.
 fn nearer_root(radicand: u64, guess: u64) -> u64
-    requires { (radicand < 2 ^ 52) × ((2 ≤ guess) × (guess < 2 ^ 52)) }
+    requires fits { radicand < 2 ^ 52 }
+    requires low { 2 ≤ guess }
+    requires high { guess < 2 ^ 52 }
     ensures low_bound { guess / 2 ≤ result }
     ensures high_bound { result < 2 ^ 52 }
 {
@@ -94,7 +97,8 @@ pub(crate) fn cut(number: u64, k: u32) -> (u64, u64)
 
 // How far main has to be moved up to stand from bit 50 down, and main so moved.
 pub(crate) fn lifted(main: u64) -> (u32, u64)
-    requires { (0 < main) × (main < 2 ^ 51) }
+    requires some { 0 < main }
+    requires fits { main < 2 ^ 51 }
     ensures value { result ≡ (lift_of main, main * 2 ^ lift_of main) }
     ensures lift_bound { result.0 ≤ 50 }
     ensures bound { result.1 < 2 ^ 51 }

@@ -46,7 +46,9 @@ impl Hints {
 
 // The main of a sum, or else of a difference. The two are one way through the code, since which it is cannot be foreseen.
 fn sum_main(is_sum: bool, setting: Setting) -> u64
-    requires { (setting.first < 2 ^ 24) × ((setting.second < 2 ^ 24) × (setting.shift ≤ 26)) }
+    requires first { setting.first < 2 ^ 24 }
+    requires second { setting.second < 2 ^ 24 }
+    requires shift { setting.shift ≤ 26 }
     ensures { result ≡ cond is_sum (setting.first * 2 ^ 26 + setting.second * 2 ^ setting.shift) (setting.first * 2 ^ 26 - setting.second * 2 ^ setting.shift) }
 {
     if is_sum {
@@ -75,7 +77,8 @@ fn principal(setting: Setting) -> (u64, u64)
 
 // The word and the hints, from main and rest.
 fn filled_from(negative: bool, scale: u32, main: u64, rest: u64) -> Written
-    requires { (0 < main) × (main < 2 ^ 51) }
+    requires some { 0 < main }
+    requires fits { main < 2 ^ 51 }
     ensures { result ≡ from_principal negative scale main rest }
 {
     let (lift, number) = lifted(main);
@@ -105,7 +108,8 @@ fn rounded(setting: Setting) -> Written
 
 // The word and the hints of a step whose case is known.
 fn written_for(operation: Operation, a: Word, b: Word, case: Case) -> Written
-    requires { (case ≡ case_of operation a.bits b.bits) × (FitCase case) }
+    requires value { case ≡ case_of operation a.bits b.bits }
+    requires fit { FitCase case }
     ensures value { result ≡ written_step operation a.bits b.bits }
     ensures right { Right operation a.bits b.bits result }
     ensures rounding { Rounding }

@@ -20,8 +20,8 @@ ran_next serial weight xs n m so_far =
 
 pub ran_on : (serial weight : ℕ) (xs : List ℕ) (n : ℕ) (m after : Model) → Ok m ≡ ran_to serial weight xs n →
     None ≡ stop_at m xs n → after ≡ model_after m xs n → Ok after ≡ ran_to serial weight xs (n + 1)
-ran_on serial weight xs n m after so_far no_stop is-after =
-    ap (λ x. Ok x) is-after ∙ ap (λ s. unless_stopped s (model_after m xs n)) no_stop ∙ sym (ran_next serial weight xs n m so_far)
+ran_on serial weight xs n m after so_far no_stop is_after =
+    ap (λ x. Ok x) is_after ∙ ap (λ s. unless_stopped s (model_after m xs n)) no_stop ∙ sym (ran_next serial weight xs n m so_far)
 
 -- a list that is stopped stays so
 past : (serial weight : ℕ) (xs : List ℕ) (n : ℕ) (stop : Stop) → ran_to serial weight xs n ≡ Err stop → (k : ℕ) → ran_to serial weight xs (n + k) ≡ Err stop

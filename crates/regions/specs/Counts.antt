@@ -9,7 +9,7 @@ abbrev pub more : ℕ → ℕ
 more n = min (n + 1) (2 ^ 64 - 1)
 
 abbrev pub tally_with : ℕ → ℕ → ℕ → ℕ → Tally
-tally_with inside outside notShown bad = record { inside = inside; outside = outside; not_shown = notShown; bad = bad }
+tally_with inside outside not_shown bad = record { inside = inside; outside = outside; not_shown = not_shown; bad = bad }
 
 abbrev pub counted : Tally → Option Verdict → Tally
 counted t (Some Inside) = tally_with (more t.inside) t.outside t.not_shown t.bad

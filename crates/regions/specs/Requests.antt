@@ -17,9 +17,9 @@ abbrev pub ended_at : List ℕ → ℕ → Request → Result Request Fault
 ended_at line at request = cond (length line == at) (Ok request) (Err (TrailingText (at + 1)))
 
 abbrev pub request_of : Word → Word → Word → Word → Word → Bool → Request
-request_of x y centreX centreY radius forged = record {
+request_of x y centre_x centre_y radius forged = record {
   position = record { x = x; y = y };
-  centre = record { x = centreX; y = centreY };
+  centre = record { x = centre_x; y = centre_y };
   radius = radius;
   forged = forged;
 }
@@ -29,10 +29,10 @@ unfoldable pub request_from : List ℕ → ℕ → Bool → Result Request Fault
 request_from line at forged =
     and_then (placed at (word_of (drop at line))) (λ x.
     and_then (operand_at line (at + 8)) (λ y.
-    and_then (operand_at line (at + 17)) (λ centreX.
-    and_then (operand_at line (at + 26)) (λ centreY.
+    and_then (operand_at line (at + 17)) (λ centre_x.
+    and_then (operand_at line (at + 26)) (λ centre_y.
     and_then (operand_at line (at + 35)) (λ radius.
-    ended_at line (at + 44) (request_of x y centreX centreY radius forged))))))
+    ended_at line (at + 44) (request_of x y centre_x centre_y radius forged))))))
 
 abbrev pub read_request : List ℕ → Result Request Fault
 read_request line = cond (is_forged line) (request_from line 7 true) (request_from line 0 false)

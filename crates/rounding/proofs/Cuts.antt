@@ -41,7 +41,7 @@ module _ (V : Value) (sound : Sound V) (c : ℕ) (from : half V (2 * size c) ≤
 -- a cut that is not held down at bit 52
 module _ (V : Value) (main rest S lift U k keep drop : ℕ) (sound : Sound V) (lies : Lies V main rest S)
     (level : S + k ≡ U + 251 + lift) (room : (rest ≡ 0 → ⊥) → lift < k) (parts : main * 2 ^ lift ≡ keep * 2 ^ k + drop)
-    (drop_fits : drop < 2 ^ k) (keep-fits : keep < 2 ^ 24) (normal : (U ≡ 0) ⊎ (2 ^ 23 ≤ keep)) where
+    (drop_fits : drop < 2 ^ k) (keep_fits : keep < 2 ^ 24) (normal : (U ≡ 0) ⊎ (2 ^ 23 ≤ keep)) where
   -- the kept part is the size of a magnitude, and one more is that of the next
   here : size (U * 2 ^ 23 + keep) ≡ keep * 2 ^ U
   here = size_spaced U keep (omega arith) normal
@@ -49,7 +49,7 @@ module _ (V : Value) (main rest S lift U k keep drop : ℕ) (sound : Sound V) (l
   next : size (suc (U * 2 ^ 23 + keep)) ≡ suc keep * 2 ^ U
   next =
       let moved : U * 2 ^ 23 + suc keep ≡ suc (U * 2 ^ 23 + keep) = omega arith in
-      ap size (sym moved) ∙ size_spaced U (suc keep) keep-fits (elim normal [ inl none ↦ inl none | inr high ↦ inr (omega arith) ])
+      ap size (sym moved) ∙ size_spaced U (suc keep) keep_fits (elim normal [ inl none ↦ inl none | inr high ↦ inr (omega arith) ])
 
   mid : middle (U * 2 ^ 23 + keep) (suc (U * 2 ^ 23 + keep)) ≡ (2 * keep + 1) * 2 ^ U
   mid = rw (here, next) (omega arith)
@@ -158,28 +158,28 @@ module _ (V : Value) (main rest S lift U k keep drop up : ℕ) (sound : Sound V)
       let from : 27 ≤ k = omega (arith, cut.spacing, cut.place) in
       let power : 2 ^ 27 ≤ 2 ^ k = pow_mono from in
       let least : keep * 2 ^ 27 ≤ keep * 2 ^ k = mul-le-mul_left keep power in
-      let keep-fits : keep < 2 ^ 24 = omega (arith, cut.parts, cut.low) in
+      let keep_fits : keep < 2 ^ 24 = omega (arith, cut.parts, cut.low) in
       let normal : (U ≡ 0) ⊎ (2 ^ 23 ≤ keep) =
       elim (cases_eq U 0) [
         | inl none ↦ inl none
         | inr some ↦
-            let at-27 : k ≡ 27 = omega (arith, cut.spacing, cut.place) in
-            let parts : main * 2 ^ lift ≡ keep * 2 ^ 27 + drop = rw at-27 at cut.parts in
-            let drop_fits : drop < 2 ^ 27 = rw at-27 at cut.drop_fits in
+            let at_27 : k ≡ 27 = omega (arith, cut.spacing, cut.place) in
+            let parts : main * 2 ^ lift ≡ keep * 2 ^ 27 + drop = rw at_27 at cut.parts in
+            let drop_fits : drop < 2 ^ 27 = rw at_27 at cut.drop_fits in
             inr (omega (arith, cut.high))
       ] in
-      rounds V main rest S lift U k keep drop sound lies level (λ some. omega (arith, cut.lift_within some)) cut.parts cut.drop_fits keep-fits normal up cut.upward
+      rounds V main rest S lift U k keep drop sound lies level (λ some. omega (arith, cut.lift_within some)) cut.parts cut.drop_fits keep_fits normal up cut.upward
 
   -- where the cut is held down at bit 52 the value lies below half of the least size
   rounds_held : 52 < U + 251 + lift - S → nearest V ≡ min (U * 2 ^ 23 + keep + up) top
   rounds_held held =
       let none : U ≡ 0 = omega (arith, cut.spacing) in
-      let at-52 : k ≡ 52 = omega (arith, cut.place) in
-      let parts : main * 2 ^ lift ≡ keep * 2 ^ 52 + drop = rw at-52 at cut.parts in
+      let at_52 : k ≡ 52 = omega (arith, cut.place) in
+      let parts : main * 2 ^ lift ≡ keep * 2 ^ 52 + drop = rw at_52 at cut.parts in
       let kept : keep ≡ 0 = omega (arith, cut.low) in
-      let less : 2 * drop < 2 ^ k = rw at-52 (omega (arith, cut.low)) in
+      let less : 2 * drop < 2 ^ k = rw at_52 (omega (arith, cut.low)) in
       let lower : rounds_up k rest keep drop ≡ false = or_from _ _ (le-ltb (2 ^ k) (2 * drop) (omega arith)) (and_left _ _ (ne_eqb (2 * drop) (2 ^ k) (omega arith))) in
-      let level-up : up ≡ 0 = cut.upward ∙ cond-false (rounds_up k rest keep drop) 1 0 lower in
+      let level_up : up ≡ 0 = cut.upward ∙ cond-false (rounds_up k rest keep drop) 1 0 lower in
       let whole = U + 251 + lift - S in
       let power : 2 ^ 53 ≤ 2 ^ whole = pow_mono held in
       let level : S + whole ≡ U + 251 + lift = omega arith in

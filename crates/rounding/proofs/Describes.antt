@@ -54,10 +54,10 @@ exact_comm a b =
 -- a sum whose first operand has no smaller magnitude
 describes_rounded : (a b : ℕ) (x y : NormalForm) → Stands x (size (magnitude_of a)) → Stands y (size (magnitude_of b)) →
     magnitude_of b ≤ magnitude_of a → magnitude_of a ≤ top → DescribesStep (rounded_sum a b x y) (sum_of a b)
-describes_rounded a b x y stands-x stands-y larger candidate =
+describes_rounded a b x y stands_x stands_y larger candidate =
     let s = size (magnitude_of a) in
     let t = size (magnitude_of b) in
-    let operands : Operands x y s t = record { first = stands-x; second = stands-y } in
+    let operands : Operands x y s t = record { first = stands_x; second = stands_y } in
     let place : Magnitude s = record { at = magnitude_of a; candidate = candidate; sized = refl } in
     let ordered : t ≤ s = size_keeps (magnitude_of b) (magnitude_of a) larger in
     let apart : max s t - min s t ≡ s - t = omega arith in
@@ -68,14 +68,14 @@ describes_rounded a b x y stands-x stands-y larger candidate =
 
 describes_finite : (a b : ℕ) (x y : NormalForm) → Stands x (size (magnitude_of a)) → Stands y (size (magnitude_of b)) →
     magnitude_of a ≤ top → magnitude_of b ≤ top → DescribesStep (sum_step_of a b (Finite x) (Finite y)) (sum_of a b)
-describes_finite a b x y stands-x stands-y candidate-a candidate-b =
+describes_finite a b x y stands_x stands_y candidate_a candidate_b =
     elim (cases_Bool (eqb (magnitude_of a) (magnitude_of b) && opposite a b)) [
       | inl cancels ↦ rw cancels tt
       | inr kept ↦
           elim (cases_lt (magnitude_of a) (magnitude_of b)) [
             | inl less ↦
-                rw (kept, lt-ltb _ _ less, ← exact_comm a b) (describes_rounded b a y x stands-y stands-x (omega arith) candidate-b)
-            | inr more ↦ rw (kept, le-ltb _ _ more) (describes_rounded a b x y stands-x stands-y more candidate-a)
+                rw (kept, lt-ltb _ _ less, ← exact_comm a b) (describes_rounded b a y x stands_y stands_x (omega arith) candidate_b)
+            | inr more ↦ rw (kept, le-ltb _ _ more) (describes_rounded a b x y stands_x stands_y more candidate_a)
           ]
     ]
 

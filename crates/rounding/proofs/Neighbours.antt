@@ -36,11 +36,11 @@ module _ (V : Value) (sound : Sound V) where
   from_neighbours m within reaches stays =
       let next : 0 < m → suc (m - 1) ≡ m = omega arith in
       let low : 0 < m → half V (middle (m - 1) m) ≤ weight V = λ some. rw (next some) at (reaches some).not_below in
-      let low-even : 0 < m → On V (middle (m - 1) m) → m % 2 ≡ 0 = λ some. rw (next some) at (reaches some).even in
+      let low_even : 0 < m → On V (middle (m - 1) m) → m % 2 ≡ 0 = λ some. rw (next some) at (reaches some).even in
       record {
         candidate = within;
         not_below = λ x less. omega (arith, below m x less, low (omega arith));
-        even_below = λ x less on. low-even (omega arith) (omega (arith, below m x less, low (omega arith)));
+        even_below = λ x less on. low_even (omega arith) (omega (arith, below m x less, low (omega arith)));
         not_above = λ x more fits. omega (arith, above m x more, (stays (omega arith)).not_above);
         even_above = λ x more fits on. (stays (omega arith)).even (omega (arith, above m x more, (stays (omega arith)).not_above));
       }

@@ -12,21 +12,21 @@ module _ (V : Value) (sound : Sound V) where
   -- The value would be on the middle of both. If they are neighbours, both are even; if not, then it would lie above the
   -- middle of the lower and the one after it.
   not_two : (m n : ℕ) → Nearest V m → Nearest V n → m < n → ⊥
-  not_two m n at-m at_n less =
-      let on : On V (middle m n) = omega (arith, at-m.not_above n less at_n.candidate, at_n.not_below m less) in
+  not_two m n at_m at_n less =
+      let on : On V (middle m n) = omega (arith, at_m.not_above n less at_n.candidate, at_n.not_below m less) in
       elim (cases_eq (suc m) n) [
-        | inl beside ↦ omega (arith, at-m.even_above n less at_n.candidate on, at_n.even_below m less on)
+        | inl beside ↦ omega (arith, at_m.even_above n less at_n.candidate on, at_n.even_below m less on)
         | inr apart ↦
             let within : suc m ≤ top = omega (arith, at_n.candidate) in
-            omega (arith, on, at-m.not_above (suc m) (omega arith) within, half_rises V sound (middle m (suc m)) (middle m n) (omega (arith, size_rises (suc m) n (omega arith))))
+            omega (arith, on, at_m.not_above (suc m) (omega arith) within, half_rises V sound (middle m (suc m)) (middle m n) (omega (arith, size_rises (suc m) n (omega arith))))
       ]
 
 pub unique : IsUnique
-unique V m n sound at-m at_n =
+unique V m n sound at_m at_n =
     elim (cases_order m n) [
       | inl same ↦ same
-      | inr (inl less) ↦ absurd (not_two V sound m n at-m at_n less)
-      | inr (inr more) ↦ absurd (not_two V sound n m at_n at-m more)
+      | inr (inl less) ↦ absurd (not_two V sound m n at_m at_n less)
+      | inr (inr more) ↦ absurd (not_two V sound n m at_n at_m more)
     ]
 
 -- so a magnitude that is nearest is the nearest

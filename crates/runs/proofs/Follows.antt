@@ -52,10 +52,10 @@ stand_alike serial weight h m follows = λ i. record { taken = follows.taken_is 
 module _ (serial weight : ℕ) (h : History) (m : Model) (follows : Follows serial weight h m) (kept : Kept serial h) where
   -- a call that takes no cell and leaves the state of each
   follows_same : (e : Event) → takes e ≡ 0 → ((n : ℕ) → state_of (status_of (e ∷ h) n) ≡ state_of (status_of h n)) → Follows serial weight (e ∷ h) m
-  follows_same e Takes-none same = record {
+  follows_same e takes_none same = record {
     serial_is = follows.serial_is;
     weight_is = follows.weight_is;
-    taken_is = ap (λ k. taken_in h + k) Takes-none ∙ add-zero (taken_in h) ∙ follows.taken_is;
+    taken_is = ap (λ k. taken_in h + k) takes_none ∙ add-zero (taken_in h) ∙ follows.taken_is;
     long = follows.long;
     states = λ n. same n ∙ follows.states n;
   }
@@ -78,10 +78,10 @@ module _ (serial weight : ℕ) (h : History) (m : Model) (follows : Follows seri
   follows_input : (word : Word) (room : Bool) → ltb m.table.taken 256 ≡ room →
       Follows serial weight (on_open (call.Input word) (answer.Input (cond room (Ok m.table.taken) (Err refusal.Full))) ∷ h)
       (with_table m (cond room (grown m.table (Input word)) m.table))
-  follows_input word true is-room =
+  follows_input word true is_room =
       follows_taken (on_open (call.Input word) (answer.Input (Ok m.table.taken))) (given word) (Input word)
-      (ltb-true m.table.taken 256 is-room) refl refl (λ n. refl)
-  follows_input word false is-room = follows_same (on_open (call.Input word) (answer.Input (Err refusal.Full))) refl (λ n. refl)
+      (ltb-true m.table.taken 256 is_room) refl refl (λ n. refl)
+  follows_input word false is_room = follows_same (on_open (call.Input word) (answer.Input (Err refusal.Full))) refl (λ n. refl)
 
   follows_enter : (code first second : ℕ) (word : Word) (reply : Result Operation Refusal) → allowed (cells_of m) code first second ≡ reply →
       Follows serial weight
@@ -101,9 +101,9 @@ module _ (serial weight : ℕ) (h : History) (m : Model) (follows : Follows seri
       ((n : ℕ) → status_of (e ∷ h) n ≡ cond (eqb n cell) (decided ticket passes (status_of h n)) (status_of h n)) →
       (s : Status) → status_of h cell ≡ s → decided ticket passes s ≡ s → (t : Table) → t ≡ m.table →
       Follows serial weight (e ∷ h) (with_table m t)
-  follows_idle e cell ticket passes Takes-none becomes s is undecided t unchanged =
+  follows_idle e cell ticket passes takes_none becomes s is undecided t unchanged =
       subst (λ u. Follows serial weight (e ∷ h) (with_table m u)) (sym unchanged)
-      (follows_same e Takes-none (λ n. ap state_of (becomes n ∙
+      (follows_same e takes_none (λ n. ap state_of (becomes n ∙
       cond_both (eqb n cell) (decided ticket passes (status_of h n)) (status_of h n) (λ r. r ≡ status_of h n)
       (λ here.
       let was : status_of h n ≡ s = ap (status_of h) (eqb-true n cell here) ∙ is in
@@ -115,11 +115,11 @@ module _ (serial weight : ℕ) (h : History) (m : Model) (follows : Follows seri
       ((n : ℕ) → status_of (e ∷ h) n ≡ cond (eqb n cell) (decided ticket passes (status_of h n)) (status_of h n)) →
       (s r : Status) → status_of h cell ≡ s → decided ticket passes s ≡ r → cell < 256 → (t : Table) → t ≡ with_state m.table cell (state_of r) →
       Follows serial weight (e ∷ h) (with_table m t)
-  follows_changed e cell ticket passes Takes-none becomes s r is decides within t changed =
+  follows_changed e cell ticket passes takes_none becomes s r is decides within t changed =
       subst (λ u. Follows serial weight (e ∷ h) (with_table m u)) (sym changed) (record {
         serial_is = follows.serial_is;
         weight_is = follows.weight_is;
-        taken_is = ap (λ k. taken_in h + k) Takes-none ∙ add-zero (taken_in h) ∙ follows.taken_is;
+        taken_is = ap (λ k. taken_in h + k) takes_none ∙ add-zero (taken_in h) ∙ follows.taken_is;
         long = length-set m.table.cells cell (cell_of (state_of r)) ∙ follows.long;
         states = λ n.
             ap state_of (becomes n)
@@ -132,48 +132,48 @@ module _ (serial weight : ℕ) (h : History) (m : Model) (follows : Follows seri
       })
 
   -- What a settle or a strike makes of the table, by the state of the cell that its ticket names: only a pending claim is decided.
-  module _ (e : Event) (t : Stub) (passes : Bool) (f : State → Table) (Takes-none : takes e ≡ 0)
+  module _ (e : Event) (t : Stub) (passes : Bool) (f : State → Table) (takes_none : takes e ≡ 0)
       (becomes : (n : ℕ) → status_of (e ∷ h) n ≡ cond (eqb n t.cell) (decided t.serial passes (status_of h n)) (status_of h n))
-      (at-free : f Free ≡ m.table) (at-input : (w : Word) → f (Input w) ≡ m.table) (at-accepted : (w : Word) → f (Accepted w) ≡ m.table)
-      (at-struck : f Struck ≡ m.table)
-      (at-pending : (op : Operation) (c : Claim) → presented m.serial (cells_of m) (ticket_of t) ≡ Pending op c.first c.second c.word →
+      (at_free : f Free ≡ m.table) (at_input : (w : Word) → f (Input w) ≡ m.table) (at_accepted : (w : Word) → f (Accepted w) ≡ m.table)
+      (at_struck : f Struck ≡ m.table)
+      (at_pending : (op : Operation) (c : Claim) → presented m.serial (cells_of m) (ticket_of t) ≡ Pending op c.first c.second c.word →
       f (Pending op c.first c.second c.word) ≡ with_state m.table t.cell (state_of (cond passes (accepted c) struck))) where
     left_alone : (s : Status) → status_of h t.cell ≡ s → f (state_of s) ≡ m.table → f (presented m.serial (cells_of m) (ticket_of t)) ≡ m.table
     left_alone s is unchanged =
         let own = eqb t.serial m.serial in
         ap (λ x. f (cond own x Free)) (sym (follows.states t.cell) ∙ ap state_of is)
-        ∙ cond_both own (state_of s) Free (λ x. f x ≡ m.table) (λ b. unchanged) (λ b. at-free)
+        ∙ cond_both own (state_of s) Free (λ x. f x ≡ m.table) (λ b. unchanged) (λ b. at_free)
 
     follows_pending : (c : Claim) → status_of h t.cell ≡ pending c → (own : Bool) → eqb t.serial m.serial ≡ own →
         Follows serial weight (e ∷ h) (with_table m (f (presented m.serial (cells_of m) (ticket_of t))))
     follows_pending c is true own =
         let waits = kept.waits t.cell c is in
         let op = waits.op in
-        let state-is : state_at m.table t.cell ≡ Pending op c.first c.second c.word
+        let state_is : state_at m.table t.cell ≡ Pending op c.first c.second c.word
         = sym (follows.states t.cell) ∙ ap state_of is ∙ ap (λ o. pending_state o c) waits.names.operation in
-        let presented-is : presented m.serial (cells_of m) (ticket_of t) ≡ Pending op c.first c.second c.word
-        = cond-true (eqb t.serial m.serial) (state_at m.table t.cell) Free own ∙ state-is in
+        let presented_is : presented m.serial (cells_of m) (ticket_of t) ≡ Pending op c.first c.second c.word
+        = cond-true (eqb t.serial m.serial) (state_at m.table t.cell) Free own ∙ state_is in
         let serials : c.serial ≡ t.serial = waits.serial_is ∙ sym follows.serial_is ∙ sym (eqb-true t.serial m.serial own) in
-        follows_changed e t.cell t.serial passes Takes-none becomes (pending c) (cond passes (accepted c) struck) is
+        follows_changed e t.cell t.serial passes takes_none becomes (pending c) (cond passes (accepted c) struck) is
         (cond-true (eqb c.serial t.serial) (cond passes (accepted c) struck) (pending c) (eq-eqb c.serial t.serial serials))
-        (pending_within m.table t.cell op c.first c.second c.word state-is)
-        (f (presented m.serial (cells_of m) (ticket_of t))) (ap f presented-is ∙ at-pending op c presented-is)
+        (pending_within m.table t.cell op c.first c.second c.word state_is)
+        (f (presented m.serial (cells_of m) (ticket_of t))) (ap f presented_is ∙ at_pending op c presented_is)
     follows_pending c is false other =
         let waits = kept.waits t.cell c is in
         let apart : c.serial ≡ t.serial → ⊥
         = λ same. eqb-false t.serial m.serial other (sym same ∙ waits.serial_is ∙ sym follows.serial_is) in
-        follows_idle e t.cell t.serial passes Takes-none becomes (pending c) is
+        follows_idle e t.cell t.serial passes takes_none becomes (pending c) is
         (cond-false (eqb c.serial t.serial) (cond passes (accepted c) struck) (pending c) (ne_eqb c.serial t.serial apart))
         (f (presented m.serial (cells_of m) (ticket_of t)))
-        (ap f (cond-false (eqb t.serial m.serial) (state_at m.table t.cell) Free other) ∙ at-free)
+        (ap f (cond-false (eqb t.serial m.serial) (state_at m.table t.cell) Free other) ∙ at_free)
 
     follows_ticket : (s : Status) → status_of h t.cell ≡ s →
         Follows serial weight (e ∷ h) (with_table m (f (presented m.serial (cells_of m) (ticket_of t))))
-    follows_ticket untaken is = follows_idle e t.cell t.serial passes Takes-none becomes untaken is refl _ (left_alone untaken is at-free)
-    follows_ticket (given w) is = follows_idle e t.cell t.serial passes Takes-none becomes (given w) is refl _ (left_alone (given w) is (at-input w))
+    follows_ticket untaken is = follows_idle e t.cell t.serial passes takes_none becomes untaken is refl _ (left_alone untaken is at_free)
+    follows_ticket (given w) is = follows_idle e t.cell t.serial passes takes_none becomes (given w) is refl _ (left_alone (given w) is (at_input w))
     follows_ticket (pending c) is = follows_pending c is (eqb t.serial m.serial) refl
-    follows_ticket (accepted c) is = follows_idle e t.cell t.serial passes Takes-none becomes (accepted c) is refl _ (left_alone (accepted c) is (at-accepted c.word))
-    follows_ticket struck is = follows_idle e t.cell t.serial passes Takes-none becomes struck is refl _ (left_alone struck is at-struck)
+    follows_ticket (accepted c) is = follows_idle e t.cell t.serial passes takes_none becomes (accepted c) is refl _ (left_alone (accepted c) is (at_accepted c.word))
+    follows_ticket struck is = follows_idle e t.cell t.serial passes takes_none becomes struck is refl _ (left_alone struck is at_struck)
 
   settled_state_lem : (cell : ℕ) (c : Claim) (o : Outcome) → settled_state c.word o ≡ state_of (cond (is_ok (answer_of cell o)) (accepted c) struck)
   settled_state_lem cell c (Ok u) = refl

@@ -13,14 +13,14 @@ use Rattle.runs.proofs.Statuses.{none_not_some}
 use Rattle.runs.specs.Histories.{Claim, Event, History, Status, on_open, close, on_closed, untaken, given, pending, accepted, accepted_word, cell_in, closed_up, decided, given_at, granted, pending_at, status_of, taken_in, takes, ticket_in}
 use Rattle.runs.specs.Law.{Answered, Holds, Lawful, Names, Reads, Settles, Writers}
 use Rattle.runs.specs.Replies.{standing, state_of, stubbed}
-use Rattle.runs.specs.declared.answer.ClosedAnswer.TheVariants as closed-answer
+use Rattle.runs.specs.declared.answer.ClosedAnswer.TheVariants as ClosedAnswers
 use Rattle.runs.specs.declared.answer.OpenAnswer.TheVariants as answer
-use Rattle.runs.specs.declared.call.ClosedCall.TheVariants as closed-call
+use Rattle.runs.specs.declared.call.ClosedCall.TheVariants as ClosedCalls
 use Rattle.runs.specs.declared.call.OpenCall.TheVariants as call
 
 -- accepted cells stay as they are
 accepted_stays : (serial : ℕ) (h : History) (s r : Status) (w : Word) → Move serial h s r → accepted_word s ≡ Some w → accepted_word r ≡ Some w
-accepted_stays serial h s r w (same as-was) is = ap accepted_word as-was ∙ is
+accepted_stays serial h s r w (same as_was) is = ap accepted_word as_was ∙ is
 accepted_stays serial h s r w (given_now v was now) is = absurd (none_not_some w (sym (ap accepted_word was) ∙ is))
 accepted_stays serial h s r w (pending_now c was now waits) is = absurd (none_not_some w (sym (ap accepted_word was) ∙ is))
 accepted_stays serial h s r w (accepted_now c was now holds) is = absurd (none_not_some w (sym (ap accepted_word was) ∙ is))
@@ -29,7 +29,7 @@ accepted_stays serial h s r w (struck_now c was now) is = absurd (none_not_some 
 -- a cell that is pending was so, or was entered just now
 waits_since : (serial : ℕ) (h : History) (s r : Status) → Move serial h s r → ((c : Claim) → s ≡ pending c → Waits serial h c) →
     (c : Claim) → r ≡ pending c → Waits serial h c
-waits_since serial h s r (same as-was) before c is = before c (sym as-was ∙ is)
+waits_since serial h s r (same as_was) before c is = before c (sym as_was ∙ is)
 waits_since serial h s r (given_now v was now) before c is = let z : ◌≡◌ {A = ℕ} 0 1 = cc in absurd (omega arith)
 waits_since serial h s r (pending_now d was now waits) before c is = let e : d ≡ c = cc in subst (Waits serial h) e waits
 waits_since serial h s r (accepted_now d was now holds) before c is = let z : ◌≡◌ {A = ℕ} 0 1 = cc in absurd (omega arith)
@@ -37,7 +37,7 @@ waits_since serial h s r (struck_now d was now) before c is = let z : ◌≡◌ 
 
 holds_since : (serial : ℕ) (h : History) (s r : Status) → Move serial h s r → ((c : Claim) → s ≡ accepted c → Holds h c) →
     (c : Claim) → r ≡ accepted c → Holds h c
-holds_since serial h s r (same as-was) before c is = before c (sym as-was ∙ is)
+holds_since serial h s r (same as_was) before c is = before c (sym as_was ∙ is)
 holds_since serial h s r (given_now v was now) before c is = let z : ◌≡◌ {A = ℕ} 0 1 = cc in absurd (omega arith)
 holds_since serial h s r (pending_now d was now waits) before c is = let z : ◌≡◌ {A = ℕ} 0 1 = cc in absurd (omega arith)
 holds_since serial h s r (accepted_now d was now holds) before c is = let e : d ≡ c = cc in subst (Holds h) e holds
@@ -111,9 +111,9 @@ module _ (serial : ℕ) (h : History) (kept : Kept serial h) where
   reads_right weight modulus (on_open (call.Strike t) a) is = tt
   reads_right weight modulus (on_open (call.Read cell) a) is = λ c met. is ∙ ap (λ s. answer.Read (word_in (state_of s))) met
   reads_right weight modulus close is = tt
-  reads_right weight modulus (on_closed (closed-call.Read cell) a) is = λ c met. is ∙ ap (λ s. closed-answer.Read (word_in (state_of s))) met
-  reads_right weight modulus (on_closed closed-call.ClosingNumber a) is = tt
-  reads_right weight modulus (on_closed (closed-call.HandIn t) a) is = tt
+  reads_right weight modulus (on_closed (ClosedCalls.Read cell) a) is = λ c met. is ∙ ap (λ s. ClosedAnswers.Read (word_in (state_of s))) met
+  reads_right weight modulus (on_closed ClosedCalls.ClosingNumber a) is = tt
+  reads_right weight modulus (on_closed (ClosedCalls.HandIn t) a) is = tt
 
   settles_right : (weight modulus : ℕ) (e : Event) → Answered serial weight modulus h e → Settles h e
   settles_right weight modulus (on_open (call.Input word) a) is = tt

@@ -97,12 +97,12 @@ module _ (serial : ℕ) (h : History) (kept : Kept serial h) where
       let names = waits.names in
       let op = waits.op in
       let o = found s op c.first c.second c.word hints in
-      let state-is : state_of (status_of h t.cell) ≡ Pending op c.first c.second c.word
+      let state_is : state_of (status_of h t.cell) ≡ Pending op c.first c.second c.word
       = ap state_of is ∙ ap (λ p. pending_state p c) names.operation in
-      let own-serial : t.serial ≡ serial = sym own ∙ waits.serial_is in
-      let presented-is : presented serial s (ticket_of t) ≡ Pending op c.first c.second c.word
-      = cond-true (eqb t.serial serial) (state_of (status_of h t.cell)) Free (eq-eqb t.serial serial own-serial) ∙ state-is in
-      let reply-is : settle_reply serial s (ticket_of t) hints ≡ answer_of t.cell o = ap (settle_reply_at s t.cell hints) presented-is in
+      let own_serial : t.serial ≡ serial = sym own ∙ waits.serial_is in
+      let presented_is : presented serial s (ticket_of t) ≡ Pending op c.first c.second c.word
+      = cond-true (eqb t.serial serial) (state_of (status_of h t.cell)) Free (eq-eqb t.serial serial own_serial) ∙ state_is in
+      let reply_is : settle_reply serial s (ticket_of t) hints ≡ answer_of t.cell o = ap (settle_reply_at s t.cell hints) presented_is in
       let sound = found_sound s op c.first c.second c.word hints in
       record {
         op = op;
@@ -114,8 +114,8 @@ module _ (serial : ℕ) (h : History) (kept : Kept serial h) where
           second = λ not_root. names.second not_root
               ∙ ap Some (sym (word_of (status_of h c.second) waits.b (names.second not_root)) ∙ sym (cond-false (is_root op) (record { bits = 0 }) (word_at s c.second) not_root));
         };
-        only = λ passes. sound.0 (granted_passed t.cell o (subst (λ r. is_ok r ≡ true) reply-is passes));
-        all = λ written. subst (λ r. is_ok r ≡ true) (sym reply-is) (passed_granted t.cell o (sound.1 written));
+        only = λ passes. sound.0 (granted_passed t.cell o (subst (λ r. is_ok r ≡ true) reply_is passes));
+        all = λ written. subst (λ r. is_ok r ≡ true) (sym reply_is) (passed_granted t.cell o (sound.1 written));
       }
 
   -- what is the writer's has the result as its word

@@ -17,10 +17,10 @@ use Rattle.runs.specs.Histories.{Claim, History, on_open, close, on_closed, acce
 use Rattle.runs.specs.Honest.{Honest, claim_in, passing, third}
 use Rattle.runs.specs.Replies.{open_reply, pending_state, standing, state_of}
 use Rattle.runs.specs.Sheets.{Reached, Sheet, is_open, is_closed, open_after}
-use Rattle.runs.specs.declared.answer.ClosedAnswer.TheVariants as closed-answer
+use Rattle.runs.specs.declared.answer.ClosedAnswer.TheVariants as ClosedAnswers
 use Rattle.runs.specs.declared.answer.OpenAnswer.{OpenAnswer}
 use Rattle.runs.specs.declared.answer.OpenAnswer.TheVariants as answer
-use Rattle.runs.specs.declared.call.ClosedCall.TheVariants as closed-call
+use Rattle.runs.specs.declared.call.ClosedCall.TheVariants as ClosedCalls
 use Rattle.runs.specs.declared.call.OpenCall.{OpenCall}
 use Rattle.runs.specs.declared.call.OpenCall.TheVariants as call
 
@@ -89,22 +89,22 @@ may_settle : (serial : ℕ) (op : Operation) (a b : Word) (w : Written) → w �
     answer.Settle (Ok 2) ≡ open_reply serial (standing (entered serial op a b w.word)) (call.Settle (third serial) w.hints)
 may_settle serial op a b w is =
     let s = standing (entered serial op a b w.word) in
-    let presented-is : cond (eqb serial serial) (s.state 2) Free ≡ Pending op 0 1 w.word
+    let presented_is : cond (eqb serial serial) (s.state 2) Free ≡ Pending op 0 1 w.word
     = cond-true (eqb serial serial) (s.state 2) Free (eq-eqb serial serial refl) ∙ ap (λ o. pending_state o (claim_in serial op w)) (operation_coded op) in
     let passes : found s op 0 1 w.word w.hints ≡ Ok tt
     = (found_sound s op 0 1 w.word w.hints).1 (is ∙ same_written serial op a b w.word) in
-    ap answer.Settle (sym (ap (settle_reply_at s 2 w.hints) presented-is ∙ ap (answer_of 2) passes))
+    ap answer.Settle (sym (ap (settle_reply_at s 2 w.hints) presented_is ∙ ap (answer_of 2) passes))
 
 -- a step that is accepted is read on the closed sheet too
 read_closed : (serial weight modulus : ℕ) (h : History) → Met serial weight modulus h → (n : ℕ) (c : Claim) → status_of h n ≡ accepted c →
-    (s : Sheet) × Reached serial weight modulus (on_closed (closed-call.Read n) (closed-answer.Read (Ok c.word)) ∷ close ∷ h) s
+    (s : Sheet) × Reached serial weight modulus (on_closed (ClosedCalls.Read n) (ClosedAnswers.Read (Ok c.word)) ∷ close ∷ h) s
 read_closed serial weight modulus h met n c is =
     let m = close_after met.model in
     let reached : Reached serial weight modulus (close ∷ h) (is_closed m) = (is_open met.model, met.reached, refl) in
     let follows = (known_reached serial weight modulus (close ∷ h) (is_closed m) reached).follows in
-    let reads : closed-answer.Read (Ok c.word) ≡ closed-answer.Read (read_reply (cells_of m) n)
-    = sym (ap (λ s. closed-answer.Read (word_in (state_of (closed_up s)))) is)
-    ∙ ap (λ s. closed-answer.Read (read_reply s n)) (stand_alike serial weight (close ∷ h) m follows) in
+    let reads : ClosedAnswers.Read (Ok c.word) ≡ ClosedAnswers.Read (read_reply (cells_of m) n)
+    = sym (ap (λ s. ClosedAnswers.Read (word_in (state_of (closed_up s)))) is)
+    ∙ ap (λ s. ClosedAnswers.Read (read_reply s n)) (stand_alike serial weight (close ∷ h) m follows) in
     (is_closed m, (is_closed m, reached, (reads, refl)))
 
 pub honest : Honest

@@ -15,7 +15,7 @@ use Rattle.runs.specs.Sheets.{Reached, is_open, is_closed, open_after}
 use Rattle.runs.specs.declared.answer.ClosedAnswer.{ClosedAnswer}
 use Rattle.runs.specs.declared.answer.OpenAnswer.{OpenAnswer}
 use Rattle.runs.specs.declared.call.ClosedCall.{ClosedCall}
-use Rattle.runs.specs.declared.call.ClosedCall.TheVariants as closed-call
+use Rattle.runs.specs.declared.call.ClosedCall.TheVariants as ClosedCalls
 use Rattle.runs.specs.declared.call.OpenCall.{OpenCall}
 use Rattle.runs.specs.declared.run.Answers.{Answers}
 use Rattle.runs.specs.declared.run.Replayed.{Replayed}
@@ -77,19 +77,19 @@ module _ (serial weight modulus : ℕ) where
   pub obeys : (calls : List OpenCall) (closed : Option (List ClosedCall)) (r : Answers) →
       vec_items r.opened ≡ answers_from (opened serial weight) calls →
       vec_items r.closed ≡ later_answers modulus (after_all (opened serial weight) calls) closed → Obeys serial weight modulus calls closed r
-  obeys calls closed r opened-are closed-are = record {
-    each = ap length opened-are ∙ answers_length (opened serial weight) calls;
-    each_closed = ap length closed-are ∙ later_length (after_all (opened serial weight) calls) closed;
-    law = subst (λ as-opened. Law serial weight modulus (history_of calls closed as-opened (vec_items r.closed))) (sym opened-are)
-        (subst (λ as-closed. Law serial weight modulus (history_of calls closed (answers_from (opened serial weight) calls) as-closed)) (sym closed-are) (law_met calls closed));
+  obeys calls closed r opened_are closed_are = record {
+    each = ap length opened_are ∙ answers_length (opened serial weight) calls;
+    each_closed = ap length closed_are ∙ later_length (after_all (opened serial weight) calls) closed;
+    law = subst (λ as_opened. Law serial weight modulus (history_of calls closed as_opened (vec_items r.closed))) (sym opened_are)
+        (subst (λ as_closed. Law serial weight modulus (history_of calls closed (answers_from (opened serial weight) calls) as_closed)) (sym closed_are) (law_met calls closed));
   }
 
 -- the modulus shows in closing numbers alone
 alike_call : (modulus other : ℕ) (m : Model) (c : ClosedCall) →
     unnumbered (closed_reply modulus m.weight (cells_of m) c) ≡ unnumbered (closed_reply other m.weight (cells_of m) c)
-alike_call modulus other m (closed-call.Read cell) = refl
-alike_call modulus other m closed-call.ClosingNumber = refl
-alike_call modulus other m (closed-call.HandIn t) = refl
+alike_call modulus other m (ClosedCalls.Read cell) = refl
+alike_call modulus other m ClosedCalls.ClosingNumber = refl
+alike_call modulus other m (ClosedCalls.HandIn t) = refl
 
 alike_closed : (modulus other : ℕ) (m : Model) (cs : List ClosedCall) →
     map unnumbered (closed_answers modulus m cs) ≡ map unnumbered (closed_answers other m cs)
@@ -106,9 +106,9 @@ alike_later modulus other m (Some cs) = alike_closed modulus other (close_after 
 pub alike : (modulus other : ℕ) (m : Model) (calls : List OpenCall) (closed : Option (List ClosedCall)) (r s : Answers) →
     vec_items r.opened ≡ answers_from m calls → vec_items r.closed ≡ later_answers modulus (after_all m calls) closed →
     vec_items s.opened ≡ answers_from m calls → vec_items s.closed ≡ later_answers other (after_all m calls) closed → Alike r s
-alike modulus other m calls closed r s r-opened r-closed s-opened s-closed = record {
-  opened = r-opened ∙ sym s-opened;
-  closed = ap (map unnumbered) r-closed ∙ alike_later modulus other (after_all m calls) closed ∙ sym (ap (map unnumbered) s-closed);
+alike modulus other m calls closed r s r_opened r_closed s_opened s_closed = record {
+  opened = r_opened ∙ sym s_opened;
+  closed = ap (map unnumbered) r_closed ∙ alike_later modulus other (after_all m calls) closed ∙ sym (ap (map unnumbered) s_closed);
 }
 
 -- answers into an empty list, on a sheet that is known

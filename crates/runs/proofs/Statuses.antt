@@ -89,10 +89,10 @@ allowed_for_lem s (Some p) first second op is =
 
 pub allowed_ok : (s : Standing) (code first second : ℕ) (op : Operation) (room : Bool) → has_room s ≡ room →
     cond room (allowed_for s (operation_of code) first second) (Err refusal.Full) ≡ Ok op → Allowed s code first second op
-allowed_ok s code first second op true is-room is =
+allowed_ok s code first second op true is_room is =
     let both = allowed_for_lem s (operation_of code) first second op is in
-    record { room = is-room; operation = both.0; checked = both.1 }
-allowed_ok s code first second op false is-room is = absurd (refused_not_ok op refusal.Full is)
+    record { room = is_room; operation = both.0; checked = both.1 }
+allowed_ok s code first second op false is_room is = absurd (refused_not_ok op refusal.Full is)
 
 -- a settle passes just where no check failed
 pub granted_passed : (cell : ℕ) (o : Outcome) → is_ok (answer_of cell o) ≡ true → o ≡ Ok tt

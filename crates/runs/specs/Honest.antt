@@ -8,9 +8,9 @@ use Rattle.hints.specs.declared.writer.Written.{Written}
 use Rattle.sheet.specs.declared.ticket.Stub.{Stub}
 use Rattle.runs.specs.Histories.{Claim, History, on_open, close, on_closed, accepted, status_of}
 use Rattle.runs.specs.Sheets.{Reached, Sheet}
-use Rattle.runs.specs.declared.answer.ClosedAnswer.TheVariants as closed-answer
+use Rattle.runs.specs.declared.answer.ClosedAnswer.TheVariants as ClosedAnswers
 use Rattle.runs.specs.declared.answer.OpenAnswer.TheVariants as answer
-use Rattle.runs.specs.declared.call.ClosedCall.TheVariants as closed-call
+use Rattle.runs.specs.declared.call.ClosedCall.TheVariants as ClosedCalls
 use Rattle.runs.specs.declared.call.OpenCall.TheVariants as call
 
 abbrev pub third : ℕ → Stub
@@ -31,7 +31,7 @@ claim_in serial op w = record { serial = serial; code = code_of op; first = 0; s
 -- then the step is read on the open sheet, and after the close on the closed one
 abbrev pub shown : ℕ → Operation → Word → Word → Written → History
 shown serial op a b w =
-    on_closed (closed-call.Read 2) (closed-answer.Read (Ok w.word))
+    on_closed (ClosedCalls.Read 2) (ClosedAnswers.Read (Ok w.word))
     ∷ close
     ∷ on_open (call.Read 2) (answer.Read (Ok w.word))
     ∷ passing serial op a b w

@@ -10,9 +10,9 @@ use Rattle.rounding.specs.Nearest.{result}
 use Rattle.sheet.specs.Operands.{is_root}
 use Rattle.runs.specs.Histories.{Claim, Event, History, on_open, close, on_closed, pending, accepted, status_of, accepted_word, granted}
 use Rattle.runs.specs.Replies.{standing, open_reply, closed_reply}
-use Rattle.runs.specs.declared.answer.ClosedAnswer.TheVariants as closed-answer
+use Rattle.runs.specs.declared.answer.ClosedAnswer.TheVariants as ClosedAnswers
 use Rattle.runs.specs.declared.answer.OpenAnswer.TheVariants as answer
-use Rattle.runs.specs.declared.call.ClosedCall.TheVariants as closed-call
+use Rattle.runs.specs.declared.call.ClosedCall.TheVariants as ClosedCalls
 use Rattle.runs.specs.declared.call.OpenCall.TheVariants as call
 
 -- the operation of a claim, and the accepted words that it names; a root names its first cell only
@@ -46,9 +46,9 @@ Reads h (on_open (call.Settle ticket hints) a) = Unit {0}
 Reads h (on_open (call.Strike ticket) a) = Unit {0}
 Reads h (on_open (call.Read cell) a) = (c : Claim) → status_of h cell ≡ accepted c → a ≡ answer.Read (Ok c.word)
 Reads h close = Unit {0}
-Reads h (on_closed (closed-call.Read cell) a) = (c : Claim) → status_of h cell ≡ accepted c → a ≡ closed-answer.Read (Ok c.word)
-Reads h (on_closed closed-call.ClosingNumber a) = Unit {0}
-Reads h (on_closed (closed-call.HandIn ticket) a) = Unit {0}
+Reads h (on_closed (ClosedCalls.Read cell) a) = (c : Claim) → status_of h cell ≡ accepted c → a ≡ ClosedAnswers.Read (Ok c.word)
+Reads h (on_closed ClosedCalls.ClosingNumber a) = Unit {0}
+Reads h (on_closed (ClosedCalls.HandIn ticket) a) = Unit {0}
 
 -- a settle that meets a pending claim of its serial and cell is answered without a refusal exactly when the claim's word and the
 -- hints are the writer's

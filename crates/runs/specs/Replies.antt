@@ -13,11 +13,11 @@ use Rattle.sheet.specs.declared.ticket.Stub.{Stub}
 use Rattle.sheet.specs.declared.ticket.Ticket.{Ticket}
 use Rattle.runs.specs.Histories.{Claim, History, Status, untaken, given, pending, accepted, struck, status_of, taken_in}
 use Rattle.runs.specs.declared.answer.ClosedAnswer.{ClosedAnswer}
-use Rattle.runs.specs.declared.answer.ClosedAnswer.TheVariants as closed-answer
+use Rattle.runs.specs.declared.answer.ClosedAnswer.TheVariants as ClosedAnswers
 use Rattle.runs.specs.declared.answer.OpenAnswer.{OpenAnswer}
 use Rattle.runs.specs.declared.answer.OpenAnswer.TheVariants as answer
 use Rattle.runs.specs.declared.call.ClosedCall.{ClosedCall}
-use Rattle.runs.specs.declared.call.ClosedCall.TheVariants as closed-call
+use Rattle.runs.specs.declared.call.ClosedCall.TheVariants as ClosedCalls
 use Rattle.runs.specs.declared.call.OpenCall.{OpenCall}
 use Rattle.runs.specs.declared.call.OpenCall.TheVariants as call
 
@@ -51,6 +51,6 @@ open_reply serial s (call.Read cell) = answer.Read (read_reply s cell)
 
 -- only the closing number depends on the system, by its modulus
 abbrev pub closed_reply : ℕ → ℕ → Standing → ClosedCall → ClosedAnswer
-closed_reply modulus weight s (closed-call.Read cell) = closed-answer.Read (read_reply s cell)
-closed_reply modulus weight s closed-call.ClosingNumber = closed-answer.ClosingNumber (closing_number modulus weight s)
-closed_reply modulus weight s (closed-call.HandIn ticket) = closed-answer.HandIn ticket
+closed_reply modulus weight s (ClosedCalls.Read cell) = ClosedAnswers.Read (read_reply s cell)
+closed_reply modulus weight s ClosedCalls.ClosingNumber = ClosedAnswers.ClosingNumber (closing_number modulus weight s)
+closed_reply modulus weight s (ClosedCalls.HandIn ticket) = ClosedAnswers.HandIn ticket

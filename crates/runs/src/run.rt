@@ -114,7 +114,7 @@ fn replay_both<S: System, T: System>(
     opened: &[OpenCall],
     closed: Option<&[ClosedCall]>,
 ) -> Result<Replayed, AllocError>
-    ensures { LawOfRuns serial weight S.System.modulus T.System.modulus opened.now (option_map (λ x. x.now) closed.entry) result }
+    ensures { LawOfRuns serial weight S.modulus T.modulus opened.now (option_map (λ x. x.now) closed.entry) result }
 {
     let room = room_for(heap, opened.len(), count(closed))?;
     let other = room_for(heap, opened.len(), count(closed))?;
@@ -135,7 +135,7 @@ pub fn replay<S: System, T: System>(
     opened: &[OpenCall],
     closed: Option<&[ClosedCall]>,
 ) -> Result<Replayed, AllocError>
-    ensures { LawOfRuns serial weight S.System.modulus T.System.modulus opened.now (option_map (λ x. x.now) closed.entry) result }
+    ensures { LawOfRuns serial weight S.modulus T.modulus opened.now (option_map (λ x. x.now) closed.entry) result }
 {
     replay_both(heap, first, second, serial, weight, opened, closed)
 }

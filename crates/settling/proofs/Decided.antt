@@ -75,8 +75,8 @@ module _ (a b word : Word) (hints : Hints) where
 -- what came of the calls that put the operands in
 module _ (m0 m1 m2 : Model) (step : Request) (code first second : ℕ)
     (empty : m0 ≡ opened 0 0)
-    (is-first : Ok first ≡ input_reply (cells_of m0)) (after_first : m1 ≡ input_after m0 step.first)
-    (is-second : Ok second ≡ input_reply (cells_of m1)) (after-second : m2 ≡ input_after m1 step.second)
+    (is_first : Ok first ≡ input_reply (cells_of m0)) (after_first : m1 ≡ input_after m0 step.first)
+    (is_second : Ok second ≡ input_reply (cells_of m1)) (after_second : m2 ≡ input_after m1 step.second)
     (is_code : code ≡ code_of step.operation) where
   abbrev op : Operation
   op = step.operation
@@ -91,13 +91,13 @@ module _ (m0 m1 m2 : Model) (step : Request) (code first second : ℕ)
   one_input = after_first ∙ ap (λ m. input_after m step.first) empty
 
   two_inputs : m2 ≡ inputs
-  two_inputs = after-second ∙ ap (λ m. input_after m step.second) one_input
+  two_inputs = after_second ∙ ap (λ m. input_after m step.second) one_input
 
   first_is : first ≡ 0
-  first_is = let same : ◌≡◌ {A = Result ℕ Refusal} (Ok first) (Ok 0) = is-first ∙ ap (λ m. input_reply (cells_of m)) empty in cc
+  first_is = let same : ◌≡◌ {A = Result ℕ Refusal} (Ok first) (Ok 0) = is_first ∙ ap (λ m. input_reply (cells_of m)) empty in cc
 
   second_is : second ≡ 1
-  second_is = let same : ◌≡◌ {A = Result ℕ Refusal} (Ok second) (Ok 1) = is-second ∙ ap (λ m. input_reply (cells_of m)) one_input in cc
+  second_is = let same : ◌≡◌ {A = Result ℕ Refusal} (Ok second) (Ok 1) = is_second ∙ ap (λ m. input_reply (cells_of m)) one_input in cc
 
   -- so the claim is allowed
   entered : (r : Result Ticket Refusal) → r ≡ enter_reply m2.serial (cells_of m2) code first second → r ≡ Ok ticket
@@ -124,14 +124,14 @@ module _ (m0 m1 m2 : Model) (step : Request) (code first second : ℕ)
       hints ≡ (written_step step.operation step.first.bits step.second.bits).hints →
       r ≡ settle_reply m3.serial (cells_of m3) t hints → Right m3 t hints r → is_ok r ≡ is_accepted step word
   unfolding is_accepted
-  settles word m3 t hints r after is-ticket hints-are is right =
+  settles word m3 t hints r after is_ticket hints_are is right =
       let pending = after ∙ entered_after word in
-      let presents : t ≡ ticket = (let same = entered (Ok t) is-ticket in cc) in
-      let r-is =
+      let presents : t ≡ ticket = (let same = entered (Ok t) is_ticket in cc) in
+      let r_is =
       is ∙ ap (λ m. settle_reply m.serial (cells_of m) t hints) pending
       ∙ ap (λ u. settle_reply 0 (cells_of (claim word hints)) u hints) presents in
       let right_there =
-      subst (λ (x : Result ℕ Refusal). Right (claim word hints) ticket hints x) r-is
+      subst (λ (x : Result ℕ Refusal). Right (claim word hints) ticket hints x) r_is
       (subst (λ (u : Ticket). Right (claim word hints) u hints r) presents
       (subst (λ (m : Model). Right m t hints r) pending right)) in
-      ap is_ok r-is ∙ decides step.first step.second word hints op right_there hints-are
+      ap is_ok r_is ∙ decides step.first step.second word hints op right_there hints_are

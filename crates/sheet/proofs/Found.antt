@@ -70,6 +70,6 @@ refused_at m ticket hints Struck = refl
 
 pub refused_reply : (m after : Model) (ticket : Ticket) (hints : Hints) (r : Result ℕ Refusal) →
     r ≡ settle_reply m.serial (cells_of m) ticket hints → after ≡ settle_after m ticket hints → Refused m ticket r after
-refused_reply m after ticket hints r is is-after =
+refused_reply m after ticket hints r is is_after =
     subst (λ (x : Result ℕ Refusal). Refused m ticket x after) (sym is)
-    (subst (λ (n : Model). Refused m ticket (settle_reply m.serial (cells_of m) ticket hints) n) (sym is-after) (refused_at m ticket hints (presented m.serial (cells_of m) ticket)))
+    (subst (λ (n : Model). Refused m ticket (settle_reply m.serial (cells_of m) ticket hints) n) (sym is_after) (refused_at m ticket hints (presented m.serial (cells_of m) ticket)))

@@ -12,7 +12,8 @@ pub(crate) struct Residue<const M: u64> {
 impl<const M: u64> Residue<M> {
     // The remainder of `n`.
     pub(crate) fn of(n: u64) -> Self
-        requires { (0 < M) × (M ≤ 2 ^ 32) }
+        requires some { 0 < M }
+        requires narrow { M ≤ 2 ^ 32 }
         ensures { result.value ≡ n % M }
     {
         Residue { value: n % M }

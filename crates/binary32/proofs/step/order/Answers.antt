@@ -6,6 +6,6 @@ returns c =
     let a = c.args.a.bits in
     let b = c.args.b.bits in
     record {
-      less = rw (c.rank-p.ensures, c.rank-q.ensures) (rank_less a b c.requires.0 c.requires.1);
-      equal = rw (c.rank-p.ensures, c.rank-q.ensures) (rank_same a b c.requires.0 c.requires.1);
+      less = rw (c.rank-p.ensures, c.rank-q.ensures) (rank_less a b c.requires.first c.requires.second);
+      equal = rw (c.rank-p.ensures, c.rank-q.ensures) (rank_same a b c.requires.first c.requires.second);
     }

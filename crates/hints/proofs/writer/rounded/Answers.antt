@@ -10,4 +10,4 @@ filled_from-requires c =
     let fit = c.requires in
     let within = main_within σ.kind σ.first σ.second σ.shift fit.low fit.high fit.second_high fit.suits in
     let room = pow_mono {i = main_width σ.kind} {j = 51} (width_at_most σ.kind) in
-    rw c.principal-main.ensures (within.some, omega (arith, within.width))
+    rw c.principal-main.ensures (record { some = within.some; fits = omega (arith, within.width) })

@@ -4,7 +4,7 @@ use Rattle.systems.proofs.Remainders.{product_mod, sum_mod}
 use Rattle.sheet.proofs.closing.with_word.Goals as goal
 
 pub returns : goal.returns
-returns g c w n weight_is total-is =
+returns g c w n weight_is total_is =
     let m = g.S.System.modulus in
     let product = product_mod n w m in
     let joined = sum_mod (n * w) c.args.word.bits m in
