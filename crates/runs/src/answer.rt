@@ -2,7 +2,7 @@
 use binary32::Word;
 use sheet::{Refusal, Stub};
 
-#[derive(Clone, Copy)]
+#[derive(Clone, Copy, PartialEq, Eq, Debug)]
 pub enum OpenAnswer {
     Input(Result<u64, Refusal>),
     Enter(Result<Stub, Refusal>),
@@ -11,7 +11,7 @@ pub enum OpenAnswer {
     Read(Result<Word, Refusal>),
 }
 
-#[derive(Clone, Copy)]
+#[derive(Clone, Copy, PartialEq, Eq, Debug)]
 pub enum ClosedAnswer {
     Read(Result<Word, Refusal>),
     ClosingNumber(u64),

@@ -5,7 +5,7 @@ use hints::Hints;
 use sheet::Stub;
 
 // A call on an open sheet.
-#[derive(Clone, Copy)]
+#[derive(Clone, Copy, PartialEq, Eq, Debug)]
 pub enum OpenCall {
     Input(Word),
     Enter {
@@ -23,7 +23,7 @@ pub enum OpenCall {
 }
 
 // A call on a closed sheet.
-#[derive(Clone, Copy)]
+#[derive(Clone, Copy, PartialEq, Eq, Debug)]
 pub enum ClosedCall {
     Read(u64),
     ClosingNumber,
