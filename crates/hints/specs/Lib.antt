@@ -1,5 +1,6 @@
 pub mod Backs
 pub mod Cases
+pub mod Hints
 pub mod Refusals
 pub mod Scheme
 pub mod Settings

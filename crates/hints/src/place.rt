@@ -17,7 +17,7 @@ const TO_PLACE: u64 = 251;
 const HIGHEST: u64 = 52;
 
 // A cut at bit `k`. `exponent` is u + 149: the word's magnitude is `exponent` · 2^23 + keep + up.
-#[derive(Clone, Copy)]
+#[derive(Clone, Copy, PartialEq, Eq, Debug)]
 pub struct Cut {
     exponent: u64,
     k: u32,

@@ -7,7 +7,7 @@ ghost use Rattle.hints.specs.Settings.{setting_of, two_of, alignment_of, radican
 
 use binary32::{Exact, NormalForm, Operation, Step, Word};
 
-#[derive(Clone, Copy)]
+#[derive(Clone, Copy, PartialEq, Eq, Debug)]
 pub enum Kind {
     Sum,
     Difference,
@@ -20,7 +20,7 @@ pub enum Kind {
 // operand's first; a root has no second. `shift` is how far up the smaller operand of a sum stands, or
 // the radicand of a root. The exact result is the hint main, and what it leaves over, times 2^(`scale` − 400), but in a sum
 // whose exponents differ by more than 26.
-#[derive(Clone, Copy)]
+#[derive(Clone, Copy, PartialEq, Eq, Debug)]
 pub struct Setting {
     pub kind: Kind,
     pub negative: bool,
@@ -143,7 +143,7 @@ impl Setting {
 }
 
 // What the hints of a step are held against: of a direct step its word alone, of a rounded one its setting.
-#[derive(Clone, Copy)]
+#[derive(Clone, Copy, PartialEq, Eq, Debug)]
 pub enum Case {
     Direct(Word),
     Rounded(Setting),

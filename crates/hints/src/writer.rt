@@ -2,6 +2,7 @@
 ghost use Rattle.std.specs.Prelude.{◌≡◌, ◌+◌, ◌-◌, ◌*◌, ◌^◌, ◌<◌, ◌≤◌, cond};
 ghost use Rattle.binary32.specs.Operations.{operation_of};
 ghost use Rattle.hints.specs.Cases.{case_of, FitCase};
+ghost use Rattle.hints.specs.Hints.{listed};
 ghost use Rattle.hints.specs.Settings.{Fit};
 ghost use Rattle.hints.specs.Scheme.{principal_of};
 ghost use Rattle.hints.specs.Writer.{from_principal, rounded_with, written_step, written, Right, RightReply};
@@ -44,6 +45,34 @@ impl Hints {
     };
 }
 
+// The hints from a list in their order.
+impl From<[u64; 6]> for Hints {
+    ghost from_gives = { λ list hints. listed hints ≡ list };
+
+    fn from(list: [u64; 6]) -> Hints {
+        let [main, rest, lift, keep, drop, up] = list;
+        Hints {
+            main,
+            rest,
+            lift,
+            keep,
+            drop,
+            up,
+        }
+    }
+}
+
+// The list of the hints in their order.
+impl From<Hints> for [u64; 6] {
+    ghost from_gives = { λ hints list. list ≡ listed hints };
+
+    fn from(hints: Hints) -> [u64; 6] {
+        [
+            hints.main, hints.rest, hints.lift, hints.keep, hints.drop, hints.up,
+        ]
+    }
+}
+
 // The main of a sum, or else of a difference. The two are one way through the code, since which it is cannot be foreseen.
 fn sum_main(is_sum: bool, setting: Setting) -> u64
     requires first { setting.first < 2 ^ 24 }
@@ -63,10 +92,7 @@ fn principal(setting: Setting) -> (u64, u64)
     requires { Fit setting }
     ensures { result ≡ principal_of setting }
 {
-    let is_sum = match setting.kind {
-        Kind::Sum => true,
-        _ => false,
-    };
+    let is_sum = setting.kind == Kind::Sum;
     match setting.kind {
         Kind::Sum | Kind::Difference => (sum_main(is_sum, setting), 0),
         Kind::Product => (setting.first * setting.second, 0),
