@@ -27,13 +27,16 @@ unfoldable pub floor_root : ℕ → ℕ → ℕ
 floor_root zero n = 0
 floor_root (suc b) n = let r = 2 * floor_root b (n / 4) in cond (nat_le ((r + 1) * (r + 1)) n) (r + 1) r
 
+-- the whole square root of a number below 4^26, and what it leaves over
+abbrev pub root_with_rest : ℕ → ℕ × ℕ
+root_with_rest n = (floor_root 26 n, n - floor_root 26 n * floor_root 26 n)
+
 abbrev pub principal_by : Kind → ℕ → ℕ → ℕ → ℕ × ℕ
 principal_by Sum first second shift = (first * 2 ^ 26 + second * 2 ^ shift, 0)
 principal_by Difference first second shift = (first * 2 ^ 26 - second * 2 ^ shift, 0)
 principal_by Product first second shift = (first * second, 0)
 principal_by Quotient first second shift = (first * 2 ^ 26 / second, first * 2 ^ 26 % second)
-principal_by Root first second shift =
-    (floor_root 26 (first * 2 ^ shift), first * 2 ^ shift - floor_root 26 (first * 2 ^ shift) * floor_root 26 (first * 2 ^ shift))
+principal_by Root first second shift = root_with_rest (first * 2 ^ shift)
 
 -- main and rest, by the kind of step
 abbrev pub principal_of : Setting → ℕ × ℕ

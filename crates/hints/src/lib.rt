@@ -4,6 +4,7 @@
 mod hint;
 mod leaves;
 mod place;
+mod radicand;
 mod refusal;
 mod setting;
 mod writer;

@@ -3,7 +3,6 @@ ghost use Rattle.std.specs.Prelude.{◌≡◌, ◌≤◌};
 ghost use Rattle.binary32.specs.Words.{composed};
 ghost use Rattle.hints.specs.Scheme.{exponent_of, cut_of, up_of, magnitude_from};
 
-use crate::leaves::power;
 use binary32::Word;
 
 // A scale is s + 400. The spacing 2^u of the words around a result has u = s − lift + 27, and u + 149 is what the word
@@ -51,7 +50,7 @@ impl Cut {
         ensures { result ≡ up_of self.k rest keep drop }
     {
         let twice = drop.saturating_mul(2);
-        let whole = power(self.k);
+        let whole = 1 << self.k;
         if twice > whole || (twice == whole && (rest != 0 || keep % 2 == 1)) {
             1
         } else {

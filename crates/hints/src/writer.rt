@@ -9,8 +9,9 @@ ghost use Rattle.hints.specs.Writer.{from_principal, rounded_with, written_step,
 ghost use Rattle.hints.specs.Worked.{Worked};
 ghost use Rattle.rounding.specs.Laws.{Rounding};
 
-use crate::leaves::{cut, lifted, moved_up, quotient, square_root};
+use crate::leaves::{cut, lifted, moved_up, quotient};
 use crate::place::Cut;
+use crate::radicand::Radicand;
 use crate::refusal::Refusal;
 use crate::setting::{Case, Kind, Setting};
 use binary32::{Operation, Word};
@@ -97,7 +98,10 @@ fn principal(setting: Setting) -> (u64, u64)
         Kind::Sum | Kind::Difference => (sum_main(is_sum, setting), 0),
         Kind::Product => (setting.first * setting.second, 0),
         Kind::Quotient => quotient(moved_up(setting.first, 26), setting.second),
-        Kind::Root => square_root(moved_up(setting.first, setting.shift)),
+        Kind::Root => {
+            let value = moved_up(setting.first, setting.shift);
+            Radicand { value }.root()
+        }
     }
 }
 
