@@ -1,5 +1,6 @@
 -- Words that are no NaN stand in the same order by rank as by value.
 use Rattle.std.proofs.Common.{◌≡◌, ℕ, ◌+◌, ◌-◌, ◌^◌, ◌<◌, ◌≤◌, Bool, true, false, cond, eqb, ltb, sym, refl, ap, ◌∙◌, inl, inr, arith}
+use Rattle.std.specs.Ordering.{nat_cmp}
 use Rattle.std.proofs.lemmas.Bool.{lt-ltb, le-ltb, eq-eqb, ne_eqb, cases_order, cases_eq, cases_lt, true≢false}
 use Rattle.binary32.specs.Words.{sign_bit, magnitude_of, field_of, fraction_of, class_of, is_nan}
 use Rattle.binary32.specs.Sizes.{size, level, rank_of}
@@ -92,3 +93,6 @@ module _ (a b : ℕ) (plain_a : is_nan (class_of a) ≡ false) (plain_b : is_nan
         | inr (inl h) ↦ ne_eqb _ _ (omega arith) ∙ sym (ne_eqb (level a) (level b) (omega (arith, less h)))
         | inr (inr h) ↦ ne_eqb _ _ (omega arith) ∙ sym (ne_eqb (level a) (level b) (omega (arith, more h)))
       ]
+
+  pub rank_order : nat_cmp (rank_of a) (rank_of b) ≡ nat_cmp (level a) (level b)
+  rank_order = rw (rank_less, rank_same)

@@ -1,5 +1,7 @@
 -- The step that an operation takes on two words: direct by the first line that fits, else rounded.
-use Rattle.std.specs.Prelude.{ℕ, Bool, true, false, cond, not, ◌&&◌, ◌||◌, ◌==◌, nat_lt}
+use Rattle.std.specs.Prelude.{ℕ, Bool, true, false, cond, not, ◌&&◌, ◌||◌, ◌==◌, nat_lt, Option, None, Some}
+use Rattle.std.specs.Ordering.{nat_cmp}
+use Rattle.std.specs.declared.cmp.Ordering.{Ordering}
 use Rattle.binary32.specs.Sizes.{level}
 use Rattle.binary32.specs.Words.{sign_bit, magnitude_of, class_of, composed, turned_of, is_nan}
 use Rattle.binary32.specs.declared.operation.Operation.{Operation}
@@ -93,6 +95,13 @@ root_of a p =
 -- A comparison answers 1 for yes and 0 for no; of a NaN the answer is no.
 abbrev pub comparison : Class → Class → Bool → Step
 comparison p q holds = line (not (is_nan p || is_nan q) && holds) 0x3f800000 (Direct (record { bits = 0 }))
+
+-- how two words stand by value: a NaN in no order
+abbrev pub order_of : ℕ → ℕ → Option Ordering
+order_of a b = cond (is_nan (class_of a) || is_nan (class_of b)) None (Some (nat_cmp (level a) (level b)))
+
+abbrev pub answer_of : Bool → Step
+answer_of holds = Direct (record { bits = cond holds 0x3f800000 0 })
 
 -- Subtract is add with the second sign turned.
 abbrev pub step_of : Operation → ℕ → ℕ → Step

@@ -6,6 +6,6 @@ mod operation;
 mod step;
 mod word;
 
-pub use operation::Operation;
+pub use operation::{Operation, UnknownCode};
 pub use step::{Exact, Step};
 pub use word::{Class, NormalForm, Word};

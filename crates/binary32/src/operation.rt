@@ -1,6 +1,6 @@
 // The eight operations and their codes.
 ghost use Rattle.std.specs.Prelude.{◌≡◌};
-ghost use Rattle.binary32.specs.Operations.{code_of, operation_of};
+ghost use Rattle.binary32.specs.Operations.{code_of, is_root, decoded};
 
 // A square root has one operand, the first; each of the others has two.
 #[derive(Clone, Copy, PartialEq, Eq, Debug)]
@@ -15,27 +15,55 @@ pub enum Operation {
     AtMost = 8,
 }
 
-impl Operation {
-    pub fn code(self) -> u32
-        ensures { result ≡ code_of self }
-    {
-        self as u32
-    }
+// A code outside 1 to 8 is none of an operation.
+#[derive(Clone, Copy, PartialEq, Eq, Debug)]
+pub struct UnknownCode;
 
-    // The operation with this code; a code outside 1 to 8 has none.
-    pub fn from_code(code: u32) -> Option<Operation>
-        ensures { result ≡ operation_of code }
+impl Operation {
+    // In the order of their codes.
+    pub const ALL: [Operation; 8] = [
+        Operation::Add,
+        Operation::Subtract,
+        Operation::Multiply,
+        Operation::Divide,
+        Operation::SquareRoot,
+        Operation::Equal,
+        Operation::Less,
+        Operation::AtMost,
+    ];
+
+    // Whether it has only one operand.
+    pub fn is_root(self) -> bool
+        ensures { result ≡ is_root self }
     {
+        self == Operation::SquareRoot
+    }
+}
+
+impl From<Operation> for u32 {
+    ghost from_gives = { λ operation code. code ≡ code_of operation };
+
+    fn from(operation: Operation) -> u32 {
+        operation as u32
+    }
+}
+
+impl TryFrom<u32> for Operation {
+    type Error = UnknownCode;
+
+    ghost try_from_gives = { λ code found. found ≡ decoded code };
+
+    fn try_from(code: u32) -> Result<Operation, UnknownCode> {
         match code {
-            1 => Some(Operation::Add),
-            2 => Some(Operation::Subtract),
-            3 => Some(Operation::Multiply),
-            4 => Some(Operation::Divide),
-            5 => Some(Operation::SquareRoot),
-            6 => Some(Operation::Equal),
-            7 => Some(Operation::Less),
-            8 => Some(Operation::AtMost),
-            _ => None,
+            1 => Ok(Operation::Add),
+            2 => Ok(Operation::Subtract),
+            3 => Ok(Operation::Multiply),
+            4 => Ok(Operation::Divide),
+            5 => Ok(Operation::SquareRoot),
+            6 => Ok(Operation::Equal),
+            7 => Ok(Operation::Less),
+            8 => Ok(Operation::AtMost),
+            _ => Err(UnknownCode),
         }
     }
 }

@@ -1,15 +1,16 @@
 // The step that an operation takes on two words: direct, with its word, or rounded, with its exact result.
-ghost use Rattle.std.specs.Prelude.{◌≡◌, Bool, true, false, ◌&&◌, ◌||◌, ◌==◌, nat_lt};
-ghost use Rattle.binary32.specs.Sizes.{level, rank_of};
-ghost use Rattle.binary32.specs.Words.{class_of, is_nan};
-ghost use Rattle.binary32.specs.Steps.{sum_step, rounded_sum, opposite, product_of, quotient_of, root_of, comparison, step_of};
+ghost use Rattle.std.specs.Prelude.{◌≡◌};
+ghost use Rattle.binary32.specs.Sizes.{rank_of};
+ghost use Rattle.binary32.specs.Words.{class_of};
+ghost use Rattle.binary32.specs.Steps.{sum_step, rounded_sum, product_of, quotient_of, root_of, order_of, answer_of, step_of};
 
 use crate::operation::Operation;
 use crate::word::{Class, NormalForm, Word};
+use std::cmp::Ordering;
 
 // The absolute value of a result that has to be rounded, by the normal forms of the operands. In a sum
 // and in a difference the operand of the larger magnitude comes first, of equal ones the first operand.
-#[derive(Clone, Copy)]
+#[derive(Clone, Copy, PartialEq, Eq, Debug)]
 pub enum Exact {
     Sum(NormalForm, NormalForm),
     Difference(NormalForm, NormalForm),
@@ -18,7 +19,7 @@ pub enum Exact {
     Root(NormalForm),
 }
 
-#[derive(Clone, Copy)]
+#[derive(Clone, Copy, PartialEq, Eq, Debug)]
 pub enum Step {
     Direct(Word),
     Rounded { negative: bool, exact: Exact },
@@ -128,32 +129,21 @@ fn rank(w: Word) -> u32
     }
 }
 
-// Whether `a` is less than `b`, and whether they are equal, for words that are no NaN.
-fn order(a: Word, b: Word) -> (bool, bool)
-    requires first { is_nan (class_of a.bits) ≡ false }
-    requires second { is_nan (class_of b.bits) ≡ false }
-    ensures less { result.0 ≡ nat_lt (level a.bits) (level b.bits) }
-    ensures equal { result.1 ≡ (level a.bits == level b.bits) }
+// How two words stand by value: a NaN in no order, and the two zeros as equals.
+fn order(a: Word, b: Word) -> Option<Ordering>
+    ensures { result ≡ order_of a.bits b.bits }
 {
-    let p = rank(a);
-    let q = rank(b);
-    (p < q, p == q)
+    match (a.class(), b.class()) {
+        (Class::Nan, _) | (_, Class::Nan) => None,
+        _ => Some(rank(a).cmp(&rank(b))),
+    }
 }
 
-// A comparison that answers yes where `a` is less than `b` if `less` is set, and where they are equal
-// if `equal` is.
-fn compared(a: Word, b: Word, less: bool, equal: bool) -> Step
-    ensures { result ≡ comparison (class_of a.bits) (class_of b.bits) ((less && nat_lt (level a.bits) (level b.bits)) || (equal && level a.bits == level b.bits)) }
+// The answer of a comparison is the word 1 for yes and 0 for no.
+fn answer(holds: bool) -> Step
+    ensures { result ≡ answer_of holds }
 {
-    if let (Class::Nan, _) | (_, Class::Nan) = (a.class(), b.class()) {
-        return Step::Direct(Word::ZERO);
-    }
-    let (is_less, is_equal) = order(a, b);
-    if (less && is_less) || (equal && is_equal) {
-        Step::Direct(Word::ONE)
-    } else {
-        Step::Direct(Word::ZERO)
-    }
+    Step::Direct(if holds { Word::ONE } else { Word::ZERO })
 }
 
 impl Operation {
@@ -171,9 +161,9 @@ impl Operation {
             Operation::Multiply => product(a, b),
             Operation::Divide => quotient(a, b),
             Operation::SquareRoot => root(a),
-            Operation::Equal => compared(a, b, false, true),
-            Operation::Less => compared(a, b, true, false),
-            Operation::AtMost => compared(a, b, true, true),
+            Operation::Equal => answer(order(a, b).is_some_and(Ordering::is_eq)),
+            Operation::Less => answer(order(a, b).is_some_and(Ordering::is_lt)),
+            Operation::AtMost => answer(order(a, b).is_some_and(Ordering::is_le)),
         }
     }
 }

@@ -12,14 +12,14 @@ pub struct Word {
 
 // The absolute value of a finite nonzero word is `significand` × 2^(`exponent` − 172), with a
 // significand from 2^23 to 2^24 − 1. The exponent is kept 172 too high, so it runs from 0 to 276.
-#[derive(Clone, Copy)]
+#[derive(Clone, Copy, PartialEq, Eq, Debug)]
 pub struct NormalForm {
     pub significand: u32,
     pub exponent: u32,
 }
 
 // What a word stands for, apart from its sign.
-#[derive(Clone, Copy)]
+#[derive(Clone, Copy, PartialEq, Eq, Debug)]
 pub enum Class {
     Nan,
     Infinity,
@@ -75,14 +75,6 @@ fn class_of(field: u32, fraction: u32) -> Class
     }
 }
 
-// What a word stands for, by its exponent field and its fraction.
-fn classified(word: Word) -> Class
-    ensures value { result ≡ class_of word.bits }
-    ensures sized { Sized result (size (magnitude_of word.bits)) }
-{
-    class_of(word.exponent_field(), word.fraction())
-}
-
 impl Word {
     // The word that every NaN result is.
     pub const NAN: Word = Word { bits: 0x7fc0_0000 };
@@ -126,7 +118,7 @@ impl Word {
         ensures value { result ≡ class_of self.bits }
         ensures sized { Sized result (size (magnitude_of self.bits)) }
     {
-        classified(self)
+        class_of(self.exponent_field(), self.fraction())
     }
 
     // The word with this sign and the low 31 bits of `magnitude`.
@@ -143,7 +135,7 @@ impl Word {
     pub fn turned(self) -> Word
         ensures { result.bits ≡ turned_of self.bits }
     {
-        if let Class::Nan = self.class() {
+        if self.class() == Class::Nan {
             return self;
         }
         Word::compose(!self.is_negative(), self.magnitude())
