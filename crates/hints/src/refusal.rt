@@ -1,6 +1,9 @@
 // What a caller gets instead of an answer.
 ghost use Rattle.std.specs.Prelude.{◌≡◌};
 ghost use Rattle.hints.specs.Refusals.{told_of};
+ghost use Rattle.hints.specs.declared.refusal.Refusal.TheVariants.{UnknownCode};
+
+use binary32::UnknownCode;
 
 // The part that refuses.
 #[derive(Clone, Copy, PartialEq, Eq, Debug)]
@@ -16,6 +19,14 @@ pub enum Layer {
 pub enum Refusal {
     // The code is none of an operation.
     UnknownCode,
+}
+
+impl From<UnknownCode> for Refusal {
+    ghost from_gives = { λ _ refusal. refusal ≡ UnknownCode };
+
+    fn from(_: UnknownCode) -> Refusal {
+        Refusal::UnknownCode
+    }
 }
 
 impl Refusal {

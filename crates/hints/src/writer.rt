@@ -171,8 +171,6 @@ pub fn write_word(code: u32, a: Word, b: Word) -> Result<Written, Refusal>
     ensures value { result ≡ written code a.bits b.bits }
     ensures right { RightReply (operation_of code) a.bits b.bits result }
 {
-    match Operation::from_code(code) {
-        None => Err(Refusal::UnknownCode),
-        Some(operation) => Ok(write_step(operation, a, b)),
-    }
+    let operation = Operation::try_from(code)?;
+    Ok(write_step(operation, a, b))
 }
