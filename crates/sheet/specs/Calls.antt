@@ -4,16 +4,13 @@ use Rattle.binary32.specs.Operations.{operation_of}
 use Rattle.binary32.specs.declared.operation.Operation.{Operation}
 use Rattle.binary32.specs.declared.word.Word.{Word}
 use Rattle.checks.specs.Examined.{Outcome, examined}
-use Rattle.checks.specs.declared.flaw.Flaw.{Flaw}
-use Rattle.checks.specs.declared.flaw.Flaw.TheVariants as flaw
 use Rattle.hints.specs.declared.writer.Hints.{Hints}
 use Rattle.sheet.specs.Cells.{Checked, word_in, word_or_zero, settled_state}
 use Rattle.sheet.specs.Operands.{is_root, claim_checked}
 use Rattle.sheet.specs.Tables.{Standing, empty_table, standing_of, with_state, has_room, grown, closed_table}
 use Rattle.sheet.specs.declared.cell.State.{State}
 use Rattle.sheet.specs.declared.cell.State.TheVariants.{Free, Input, Pending, Accepted, Struck}
-use Rattle.sheet.specs.declared.closed.ClosedSheet.{ClosedSheet}
-use Rattle.sheet.specs.declared.opened.OpenSheet.{OpenSheet}
+use Rattle.sheet.specs.declared.phase.Sheet.{Sheet}
 use Rattle.sheet.specs.declared.refusal.Refusal.{Refusal}
 use Rattle.sheet.specs.declared.refusal.Refusal.TheVariants as refusal
 use Rattle.sheet.specs.declared.table.Table.{Table}
@@ -25,11 +22,9 @@ pub record Model : Type 0 where
   pub weight : ℕ
   pub table : Table
 
-abbrev pub model_of : {S E : Type 0} → OpenSheet S E → Model
+-- the same of an open sheet and of a closed one
+abbrev pub model_of : {S P E : Type 0} → Sheet S P E → Model
 model_of sheet = record { serial = sheet.serial; weight = sheet.weight; table = sheet.table }
-
-abbrev pub closed_model_of : {S E : Type 0} → ClosedSheet S E → Model
-closed_model_of sheet = record { serial = sheet.serial; weight = sheet.weight; table = sheet.table }
 
 abbrev pub cells_of : Model → Standing
 cells_of m = standing_of m.table
@@ -97,16 +92,9 @@ unfoldable pub found : Standing → Operation → ℕ → ℕ → Word → Hints
 found s operation first second word hints =
     examined operation (word_at s first).bits (second_word s operation second).bits word hints
 
-abbrev pub refusal_of : ℕ → Flaw → Refusal
-refusal_of cell (flaw.Width hint) = refusal.Width cell hint
-refusal_of cell flaw.FirstEquation = refusal.FirstEquation cell
-refusal_of cell flaw.SecondEquation = refusal.SecondEquation cell
-refusal_of cell flaw.Up = refusal.Up cell
-refusal_of cell flaw.Word = refusal.Word cell
-
 abbrev pub answer_of : ℕ → Outcome → Result ℕ Refusal
 answer_of cell (Ok _) = Ok cell
-answer_of cell (Err found) = Err (refusal_of cell found)
+answer_of cell (Err found) = Err (refusal.Flawed cell found)
 
 abbrev pub settle_reply_at : Standing → ℕ → Hints → State → Result ℕ Refusal
 settle_reply_at s cell hints Free = Err refusal.BadTicket

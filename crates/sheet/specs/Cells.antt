@@ -1,10 +1,12 @@
 -- What a cell answers and becomes, by its state.
-use Rattle.std.specs.Prelude.{ℕ, Ok, Err, Result}
+use Rattle.std.specs.Prelude.{Ok, Err, Result}
 use Rattle.binary32.specs.declared.word.Word.{Word}
 use Rattle.checks.specs.Examined.{Outcome}
 use Rattle.sheet.specs.declared.cell.Cell.{Cell}
 use Rattle.sheet.specs.declared.cell.State.{State}
 use Rattle.sheet.specs.declared.cell.State.TheVariants.{Free, Input, Pending, Accepted, Struck}
+use Rattle.sheet.specs.declared.refusal.Operand.{Operand}
+use Rattle.sheet.specs.declared.refusal.Operand.TheVariants.{First}
 use Rattle.sheet.specs.declared.refusal.Refusal.{Refusal}
 use Rattle.sheet.specs.declared.refusal.Refusal.TheVariants as refusal
 
@@ -19,8 +21,8 @@ abbrev pub before : Checked → Checked → Checked
 before (Ok _) later = later
 before (Err found) later = Err found
 
--- the cell of an operand, 1 or 2, has to be taken
-abbrev pub taken_in : State → ℕ → Checked
+-- the cell of an operand has to be taken
+abbrev pub taken_in : State → Operand → Checked
 taken_in Free operand = Err (refusal.NotTaken operand)
 taken_in (Input word) operand = Ok tt
 taken_in (Pending operation first second word) operand = Ok tt
@@ -28,7 +30,7 @@ taken_in (Accepted word) operand = Ok tt
 taken_in Struck operand = Ok tt
 
 -- and neither pending nor struck
-abbrev pub accepted_in : State → ℕ → Checked
+abbrev pub accepted_in : State → Operand → Checked
 accepted_in Free operand = Ok tt
 accepted_in (Input word) operand = Ok tt
 accepted_in (Pending operation first second word) operand = Err (refusal.NotAccepted operand)
@@ -37,11 +39,11 @@ accepted_in Struck operand = Err (refusal.NotAccepted operand)
 
 -- what is read of a cell: an input counts as accepted
 abbrev pub word_in : State → Result Word Refusal
-word_in Free = Err (refusal.NotTaken 1)
+word_in Free = Err (refusal.NotTaken First)
 word_in (Input word) = Ok word
-word_in (Pending operation first second word) = Err (refusal.NotAccepted 1)
+word_in (Pending operation first second word) = Err (refusal.NotAccepted First)
 word_in (Accepted word) = Ok word
-word_in Struck = Err (refusal.NotAccepted 1)
+word_in Struck = Err (refusal.NotAccepted First)
 
 -- the word of a cell that a claim names; such a cell was accepted when the claim was entered, and any other state gives zero, so
 -- that settling rests on nothing that has to last

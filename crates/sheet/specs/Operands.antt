@@ -5,17 +5,18 @@ use Rattle.binary32.specs.declared.operation.Operation.{Operation}
 use Rattle.binary32.specs.declared.operation.Operation.TheVariants.{SquareRoot}
 use Rattle.sheet.specs.Cells.{Checked, before, taken_in, accepted_in}
 use Rattle.sheet.specs.declared.cell.State.{State}
+use Rattle.sheet.specs.declared.refusal.Operand.TheVariants.{First, Second}
 
 abbrev pub is_root : Operation → Bool
 is_root operation = code_of operation == code_of SquareRoot
 
 abbrev pub operand_checked : State → Checked
-operand_checked first = before (taken_in first 1) (accepted_in first 1)
+operand_checked first = before (taken_in first First) (accepted_in first First)
 
 -- first that both are taken, then that both are accepted; of each the first operand before the second
 abbrev pub operands_checked : State → State → Checked
 operands_checked first second =
-    before (taken_in first 1) (before (taken_in second 2) (before (accepted_in first 1) (accepted_in second 2)))
+    before (taken_in first First) (before (taken_in second Second) (before (accepted_in first First) (accepted_in second Second)))
 
 -- the second cell of a root is not looked at
 abbrev pub claim_checked : Operation → State → State → Checked

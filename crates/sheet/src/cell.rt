@@ -2,11 +2,11 @@
 ghost use Rattle.std.specs.Prelude.{◌≡◌};
 ghost use Rattle.sheet.specs.Cells.{taken_in, accepted_in, word_in, word_or_zero, settled_state, closed_cell};
 
-use crate::refusal::Refusal;
+use crate::refusal::{Operand, Refusal};
 use binary32::{Operation, Word};
 use checks::Flaw;
 
-#[derive(Clone, Copy)]
+#[derive(Clone, Copy, PartialEq, Eq, Debug)]
 pub enum State {
     // Not taken yet.
     Free,
@@ -25,13 +25,13 @@ pub enum State {
     Struck,
 }
 
-#[derive(Clone, Copy)]
+#[derive(Clone, Copy, PartialEq, Eq, Debug)]
 pub struct Cell {
     pub state: State,
 }
 
 // That the cell of an operand is taken.
-pub(crate) fn check_taken(state: State, operand: u32) -> Result<(), Refusal>
+pub(crate) fn check_taken(state: State, operand: Operand) -> Result<(), Refusal>
     ensures { result ≡ taken_in state operand }
 {
     match state {
@@ -41,7 +41,7 @@ pub(crate) fn check_taken(state: State, operand: u32) -> Result<(), Refusal>
 }
 
 // That the cell of an operand is neither pending nor struck.
-pub(crate) fn check_accepted(state: State, operand: u32) -> Result<(), Refusal>
+pub(crate) fn check_accepted(state: State, operand: Operand) -> Result<(), Refusal>
     ensures { result ≡ accepted_in state operand }
 {
     match state {
@@ -56,8 +56,8 @@ pub(crate) fn word_in(state: State) -> Result<Word, Refusal>
 {
     match state {
         State::Input(word) | State::Accepted(word) => Ok(word),
-        State::Free => Err(Refusal::NotTaken { operand: 1 }),
-        State::Pending { .. } | State::Struck => Err(Refusal::NotAccepted { operand: 1 }),
+        State::Free => Err(Refusal::NotTaken { operand: Operand::First }),
+        State::Pending { .. } | State::Struck => Err(Refusal::NotAccepted { operand: Operand::First }),
     }
 }
 

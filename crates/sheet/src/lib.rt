@@ -6,12 +6,12 @@ mod closed;
 mod closing;
 mod opened;
 mod operands;
+mod phase;
 mod refusal;
 mod table;
 mod ticket;
 
 pub use cell::{Cell, State};
-pub use closed::ClosedSheet;
-pub use opened::OpenSheet;
-pub use refusal::{Refusal, Values};
+pub use phase::{Closed, ClosedSheet, Open, OpenSheet, Sheet};
+pub use refusal::{Operand, Refusal, Values};
 pub use ticket::{Stub, Ticket};

@@ -1,40 +1,27 @@
 // An open sheet: words are put in, claims entered, settled and struck.
 ghost use Rattle.std.specs.Prelude.{◌≡◌};
-ghost use Rattle.sheet.specs.Calls.{found as found_in, model_of, cells_of, closed_model_of, opened, input_reply, input_after, enter_reply, enter_after, presented, answer_of, settle_reply, settle_after, strike_reply, strike_after, read_reply, close_after};
+ghost use Rattle.sheet.specs.Calls.{found as found_in, model_of, cells_of, opened, input_reply, input_after, enter_reply, enter_after, presented, answer_of, settle_reply, settle_after, strike_reply, strike_after, close_after};
 ghost use Rattle.sheet.specs.Right.{Refused, Right};
 ghost use Rattle.sheet.specs.Tickets.{ticket_of};
 
-use crate::cell::{State, word_in};
-use crate::closed::ClosedSheet;
+use crate::cell::State;
 use crate::operands::{allow, first_word, second_word};
+use crate::phase::{ClosedSheet, OpenSheet, Sheet};
 use crate::refusal::Refusal;
 use crate::table::Table;
 use crate::ticket::{Stub, Ticket};
 use binary32::{Operation, Word};
 use checks::{Flaw, examine};
 use hints::Hints;
+use std::marker::PhantomData;
 use systems::System;
-
-#[derive(Drop)]
-pub struct OpenSheet<S: System> {
-    system: S,
-    serial: u32,
-    weight: u64,
-    table: Table,
-}
 
 // What a settled cell's holder is told of the first check that its claim failed, if any.
 fn answer(cell: u64, found: Result<(), Flaw>) -> Result<u64, Refusal>
     ensures { result ≡ answer_of cell found }
 {
-    match found {
-        Ok(()) => Ok(cell),
-        Err(Flaw::Width(hint)) => Err(Refusal::Width { cell, hint }),
-        Err(Flaw::FirstEquation) => Err(Refusal::FirstEquation { cell }),
-        Err(Flaw::SecondEquation) => Err(Refusal::SecondEquation { cell }),
-        Err(Flaw::Up) => Err(Refusal::Up { cell }),
-        Err(Flaw::Word) => Err(Refusal::Word { cell }),
-    }
+    found.map_err(|flaw| Refusal::Flawed { cell, flaw })?;
+    Ok(cell)
 }
 
 impl<S: System> OpenSheet<S> {
@@ -42,11 +29,12 @@ impl<S: System> OpenSheet<S> {
     pub fn new(serial: u32, weight: u64, system: S) -> Self
         ensures { model_of result ≡ opened serial weight }
     {
-        OpenSheet {
+        Sheet {
             system,
             serial,
             weight,
             table: Table::empty(),
+            phase: PhantomData,
         }
     }
 
@@ -156,29 +144,24 @@ impl<S: System> OpenSheet<S> {
         }
     }
 
-    // The word of an accepted cell.
-    pub fn read(&self, cell: u64) -> Result<Word, Refusal>
-        ensures { result ≡ read_reply (cells_of (model_of self.now)) cell }
-    {
-        word_in(self.table.state(cell))
-    }
-
     // Ends the entering and settling of claims, and strikes those that are pending.
     pub fn close(self) -> ClosedSheet<S>
-        ensures { closed_model_of result ≡ close_after (model_of self) }
+        ensures { model_of result ≡ close_after (model_of self) }
     {
-        let OpenSheet {
+        let Sheet {
             system,
             serial,
             weight,
             mut table,
+            ..
         } = self;
         table.close();
-        ClosedSheet {
+        Sheet {
             system,
             serial,
             weight,
             table,
+            phase: PhantomData,
         }
     }
 }

@@ -5,7 +5,7 @@ ghost use Rattle.sheet.specs.Operands.{is_root, operand_checked, operands_checke
 ghost use Rattle.sheet.specs.Tables.{state_at, standing_of};
 
 use crate::cell::{State, check_accepted, check_taken, word_or_zero};
-use crate::refusal::Refusal;
+use crate::refusal::{Operand, Refusal};
 use crate::table::Table;
 use binary32::{Operation, Word};
 
@@ -18,17 +18,17 @@ pub(crate) fn is_root(operation: Operation) -> bool
 fn check_operand(first: State) -> Result<(), Refusal>
     ensures { result ≡ operand_checked first }
 {
-    check_taken(first, 1)?;
-    check_accepted(first, 1)
+    check_taken(first, Operand::First)?;
+    check_accepted(first, Operand::First)
 }
 
 fn check_operands(first: State, second: State) -> Result<(), Refusal>
     ensures { result ≡ operands_checked first second }
 {
-    check_taken(first, 1)?;
-    check_taken(second, 2)?;
-    check_accepted(first, 1)?;
-    check_accepted(second, 2)
+    check_taken(first, Operand::First)?;
+    check_taken(second, Operand::Second)?;
+    check_accepted(first, Operand::First)?;
+    check_accepted(second, Operand::Second)
 }
 
 // A root has one operand: its second cell is not looked up.

@@ -1,8 +1,24 @@
 // What a caller of a sheet gets instead of an answer.
 ghost use Rattle.std.specs.Prelude.{◌≡◌};
-ghost use Rattle.sheet.specs.Refusals.{told_of, values_of};
+ghost use Rattle.sheet.specs.Refusals.{place_of, told_of, values_of};
 
+use checks::Flaw;
 use hints::Layer;
+
+// Which operand of a claim.
+#[derive(Clone, Copy, PartialEq, Eq, Debug)]
+pub enum Operand {
+    First = 1,
+    Second = 2,
+}
+
+impl From<Operand> for u32 {
+    ghost from_gives = { λ operand place. place ≡ place_of operand };
+
+    fn from(operand: Operand) -> u32 {
+        operand as u32
+    }
+}
 
 #[derive(Clone, Copy, PartialEq, Eq, Debug)]
 pub enum Refusal {
@@ -10,18 +26,14 @@ pub enum Refusal {
     Full,
     // The code is none of an operation.
     UnknownCode,
-    // The cell of this operand, 1 or 2, is not taken.
-    NotTaken { operand: u32 },
-    // The cell of this operand, 1 or 2, is pending or struck.
-    NotAccepted { operand: u32 },
+    // The cell of this operand is not taken.
+    NotTaken { operand: Operand },
+    // The cell of this operand is pending or struck.
+    NotAccepted { operand: Operand },
     // The ticket is of another sheet, or its cell is not pending.
     BadTicket,
-    // The hint with this number, from 1 to 6, is outside its width.
-    Width { cell: u64, hint: u32 },
-    FirstEquation { cell: u64 },
-    SecondEquation { cell: u64 },
-    Up { cell: u64 },
-    Word { cell: u64 },
+    // The claim of this cell has this flaw, and was struck for it.
+    Flawed { cell: u64, flaw: Flaw },
 }
 
 // What a refusal tells besides its number: a number that it is about, and for a hint a second one. Where
@@ -39,14 +51,10 @@ impl Refusal {
         match self {
             Refusal::Full => 1,
             Refusal::UnknownCode => 2,
-            Refusal::NotTaken { operand: _ } => 3,
-            Refusal::NotAccepted { operand: _ } => 4,
+            Refusal::NotTaken { .. } => 3,
+            Refusal::NotAccepted { .. } => 4,
             Refusal::BadTicket => 5,
-            Refusal::Width { cell: _, hint: _ } => 6,
-            Refusal::FirstEquation { cell: _ } => 7,
-            Refusal::SecondEquation { cell: _ } => 8,
-            Refusal::Up { cell: _ } => 9,
-            Refusal::Word { cell: _ } => 10,
+            Refusal::Flawed { flaw, .. } => flaw.number(),
         }
     }
 
@@ -56,14 +64,10 @@ impl Refusal {
         match self {
             Refusal::Full
             | Refusal::UnknownCode
-            | Refusal::NotTaken { operand: _ }
-            | Refusal::NotAccepted { operand: _ }
+            | Refusal::NotTaken { .. }
+            | Refusal::NotAccepted { .. }
             | Refusal::BadTicket => Layer::Sheet,
-            Refusal::Width { cell: _, hint: _ } => Layer::Hints,
-            Refusal::FirstEquation { cell: _ }
-            | Refusal::SecondEquation { cell: _ }
-            | Refusal::Up { cell: _ } => Layer::Equations,
-            Refusal::Word { cell: _ } => Layer::Word,
+            Refusal::Flawed { flaw, .. } => flaw.layer(),
         }
     }
 
@@ -76,17 +80,17 @@ impl Refusal {
                 second: 0,
             },
             Refusal::NotTaken { operand } | Refusal::NotAccepted { operand } => Values {
-                first: u64::from(operand),
+                first: u64::from(u32::from(operand)),
                 second: 0,
             },
-            Refusal::Width { cell, hint } => Values {
+            Refusal::Flawed {
+                cell,
+                flaw: Flaw::Width(hint),
+            } => Values {
                 first: cell,
                 second: hint,
             },
-            Refusal::FirstEquation { cell }
-            | Refusal::SecondEquation { cell }
-            | Refusal::Up { cell }
-            | Refusal::Word { cell } => Values {
+            Refusal::Flawed { cell, .. } => Values {
                 first: cell,
                 second: 0,
             },

@@ -1,7 +1,7 @@
 use Rattle.std.proofs.Common.{◌≡◌, rules}
 use Rattle.sheet.proofs.Found.{refused_reply, right_reply}
 use Rattle.sheet.specs.Calls.{cells_of, model_of, settle_after, settle_reply}
-use Rattle.sheet.proofs.opened.OpenSheet.settle.Goals as goal
+use Rattle.sheet.proofs.opened.OpenSheet+S.settle.Goals as goal
 
 pub returns : goal.returns
 returns g c =

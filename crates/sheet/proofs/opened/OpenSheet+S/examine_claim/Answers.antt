@@ -1,6 +1,6 @@
 use Rattle.sheet.proofs.Found.{found_is}
 use Rattle.sheet.specs.Calls.{cells_of, model_of}
-use Rattle.sheet.proofs.opened.OpenSheet.examine_claim.Goals as goal
+use Rattle.sheet.proofs.opened.OpenSheet+S.examine_claim.Goals as goal
 
 pub returns : goal.returns
 returns g c =
