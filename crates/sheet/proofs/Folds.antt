@@ -1,8 +1,12 @@
 -- The fold of the accepted words, cell by cell.
-use Rattle.std.proofs.Common.{◌≡◌, ℕ, suc, ◌+◌, ◌*◌, List, [], ◌∷◌, ◌++◌, refl, ap, ◌∙◌, add-one}
+use Rattle.std.proofs.Common.{◌≡◌, ℕ, suc, ◌+◌, ◌*◌, ◌<◌, List, get_or, arith, [], ◌∷◌, ◌++◌, refl, ap, ◌∙◌, add-one}
+use Rattle.std.proofs.lemmas.Bool.Decides.{nat_tests}
 use Rattle.binary32.specs.declared.word.Word.{Word}
 use Rattle.sheet.specs.Closing.{fold_from, words_below, words_of}
-use Rattle.sheet.specs.Tables.{Standing}
+use Rattle.sheet.specs.Cells.{cell_of}
+use Rattle.sheet.specs.Tables.{Standing, standing_of}
+use Rattle.sheet.specs.declared.cell.State.TheVariants.{Free}
+use Rattle.sheet.specs.declared.table.Table.{Table}
 
 fold_append : (weight total : ℕ) (ws vs : List Word) → fold_from weight total (ws ++ vs) ≡ fold_from weight (fold_from weight total ws) vs
 fold_append weight total [] vs = refl
@@ -22,3 +26,7 @@ pub fold_more : (weight : ℕ) (s : Standing) (n : ℕ) →
 fold_more weight s n =
     ap (λ k. fold_from weight 0 (words_below s k)) (add-one n) ∙ ap (fold_from weight 0) (words_more s n)
     ∙ fold_append weight 0 (words_below s n) (words_of (s.state n))
+
+-- a cell that there is stands as its number does
+pub state_in : (t : Table) (n : ℕ) → n < 256 → (get_or t.cells n (cell_of Free)).state ≡ (standing_of t).state n
+state_in t n within = grind (arith, nat_tests)

@@ -56,8 +56,12 @@ pub(crate) fn word_in(state: State) -> Result<Word, Refusal>
 {
     match state {
         State::Input(word) | State::Accepted(word) => Ok(word),
-        State::Free => Err(Refusal::NotTaken { operand: Operand::First }),
-        State::Pending { .. } | State::Struck => Err(Refusal::NotAccepted { operand: Operand::First }),
+        State::Free => Err(Refusal::NotTaken {
+            operand: Operand::First,
+        }),
+        State::Pending { .. } | State::Struck => Err(Refusal::NotAccepted {
+            operand: Operand::First,
+        }),
     }
 }
 

@@ -4,7 +4,7 @@ ghost use Rattle.sheet.specs.Closing.{words_of, fold_from, closing_number};
 ghost use Rattle.sheet.specs.Tables.{standing_of};
 
 use crate::cell::State;
-use crate::table::{CELLS, Table};
+use crate::table::Table;
 use binary32::Word;
 use systems::System;
 
@@ -39,8 +39,8 @@ pub(crate) fn fold_words<S: System>(system: &S, weight: u64, table: &Table) -> u
 {
     let factor = system.take_in(weight);
     let mut total = system.take_in(0);
-    for n in 0..CELLS {
-        total = with_cell(system, factor, total, table.state(n));
+    for cell in &table.cells {
+        total = with_cell(system, factor, total, cell.state);
     }
     system.read_back(total)
 }

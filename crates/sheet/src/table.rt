@@ -8,12 +8,13 @@ use binary32::Word;
 use checks::Flaw;
 
 // As many cells as a sheet has.
-pub(crate) const CELLS: u64 = 256;
+const CELLS: u64 = 256;
 
 // The cells by their numbers. The next one that is taken has the number `taken`; it is free, and so are all after it.
+// An array and a count, and no `Vec`, since a sheet takes no memory but its own.
 #[derive(Drop)]
 pub(crate) struct Table {
-    cells: [Cell; 256],
+    pub(crate) cells: [Cell; 256],
     taken: u64,
 }
 
@@ -21,7 +22,7 @@ pub(crate) struct Table {
 fn close_cells(cells: &mut [Cell])
     ensures { cells.new ≡ map closed_cell cells.old }
 {
-    for cell in cells.iter_mut() {
+    for cell in cells {
         close_cell(cell);
     }
 }
@@ -40,11 +41,9 @@ impl Table {
     pub(crate) fn state(&self, n: u64) -> State
         ensures { result ≡ state_at self.now n }
     {
-        if n < CELLS {
-            self.cells[n as usize].state
-        } else {
-            State::Free
-        }
+        self.cells
+            .get(n as usize)
+            .map_or(State::Free, |cell| cell.state)
     }
 
     // Whether a cell is left to take.
