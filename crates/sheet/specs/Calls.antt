@@ -1,12 +1,12 @@
 -- The calls of a sheet: what each answers, and what the sheet is afterwards.
 use Rattle.std.specs.Prelude.{ℕ, cond, Some, None, Ok, Err, Option, Result, ◌==◌}
-use Rattle.binary32.specs.Operations.{operation_of}
+use Rattle.binary32.specs.Operations.{is_root, operation_of}
 use Rattle.binary32.specs.declared.operation.Operation.{Operation}
 use Rattle.binary32.specs.declared.word.Word.{Word}
 use Rattle.checks.specs.Examined.{Outcome, examined}
 use Rattle.hints.specs.declared.writer.Hints.{Hints}
 use Rattle.sheet.specs.Cells.{Checked, word_in, word_or_zero, settled_state}
-use Rattle.sheet.specs.Operands.{is_root, claim_checked}
+use Rattle.sheet.specs.Operands.{claim_checked}
 use Rattle.sheet.specs.Tables.{Standing, empty_table, standing_of, with_state, has_room, grown, closed_table}
 use Rattle.sheet.specs.declared.cell.State.{State}
 use Rattle.sheet.specs.declared.cell.State.TheVariants.{Free, Input, Pending, Accepted, Struck}

@@ -1,14 +1,10 @@
 -- What the operand cells of a claim have to be when it is entered.
-use Rattle.std.specs.Prelude.{Bool, cond, ◌==◌}
-use Rattle.binary32.specs.Operations.{code_of}
+use Rattle.std.specs.Prelude.{cond}
+use Rattle.binary32.specs.Operations.{is_root}
 use Rattle.binary32.specs.declared.operation.Operation.{Operation}
-use Rattle.binary32.specs.declared.operation.Operation.TheVariants.{SquareRoot}
 use Rattle.sheet.specs.Cells.{Checked, before, taken_in, accepted_in}
 use Rattle.sheet.specs.declared.cell.State.{State}
 use Rattle.sheet.specs.declared.refusal.Operand.TheVariants.{First, Second}
-
-abbrev pub is_root : Operation → Bool
-is_root operation = code_of operation == code_of SquareRoot
 
 abbrev pub operand_checked : State → Checked
 operand_checked first = before (taken_in first First) (accepted_in first First)

@@ -1,19 +1,13 @@
 // The operand cells of a claim that is entered.
 ghost use Rattle.std.specs.Prelude.{◌≡◌, ◌<◌, OnOk};
 ghost use Rattle.sheet.specs.Calls.{allowed, word_at, second_word};
-ghost use Rattle.sheet.specs.Operands.{is_root, operand_checked, operands_checked, claim_checked};
+ghost use Rattle.sheet.specs.Operands.{operand_checked, operands_checked, claim_checked};
 ghost use Rattle.sheet.specs.Tables.{state_at, standing_of};
 
 use crate::cell::{State, check_accepted, check_taken, word_or_zero};
 use crate::refusal::{Operand, Refusal};
 use crate::table::Table;
 use binary32::{Operation, Word};
-
-pub(crate) fn is_root(operation: Operation) -> bool
-    ensures { result ≡ is_root operation }
-{
-    operation.code() == Operation::SquareRoot.code()
-}
 
 fn check_operand(first: State) -> Result<(), Refusal>
     ensures { result ≡ operand_checked first }
@@ -35,7 +29,7 @@ fn check_operands(first: State, second: State) -> Result<(), Refusal>
 fn check_claim(table: &Table, operation: Operation, first: u64, second: u64) -> Result<(), Refusal>
     ensures { result ≡ claim_checked operation (state_at table.now first) (state_at table.now second) }
 {
-    if is_root(operation) {
+    if operation.is_root() {
         check_operand(table.state(first))
     } else {
         check_operands(table.state(first), table.state(second))
@@ -50,9 +44,7 @@ pub(crate) fn allow(table: &Table, code: u32, first: u64, second: u64) -> Result
     if !table.has_room() {
         return Err(Refusal::Full);
     }
-    let Some(operation) = Operation::from_code(code) else {
-        return Err(Refusal::UnknownCode);
-    };
+    let operation = Operation::try_from(code)?;
     check_claim(table, operation, first, second)?;
     Ok(operation)
 }
@@ -69,7 +61,7 @@ pub(crate) fn first_word(table: &Table, first: u64) -> Word
 pub(crate) fn second_word(table: &Table, operation: Operation, second: u64) -> Word
     ensures { result ≡ second_word (standing_of table.now) operation second }
 {
-    if is_root(operation) {
+    if operation.is_root() {
         Word::ZERO
     } else {
         word_or_zero(table.state(second))

@@ -1,7 +1,9 @@
 // What a caller of a sheet gets instead of an answer.
 ghost use Rattle.std.specs.Prelude.{◌≡◌};
 ghost use Rattle.sheet.specs.Refusals.{place_of, told_of, values_of};
+ghost use Rattle.sheet.specs.declared.refusal.Refusal.TheVariants.{UnknownCode};
 
+use binary32::UnknownCode;
 use checks::Flaw;
 use hints::Layer;
 
@@ -34,6 +36,14 @@ pub enum Refusal {
     BadTicket,
     // The claim of this cell has this flaw, and was struck for it.
     Flawed { cell: u64, flaw: Flaw },
+}
+
+impl From<UnknownCode> for Refusal {
+    ghost from_gives = { λ _ refusal. refusal ≡ UnknownCode };
+
+    fn from(_: UnknownCode) -> Refusal {
+        Refusal::UnknownCode
+    }
 }
 
 // What a refusal tells besides its number: a number that it is about, and for a hint a second one. Where

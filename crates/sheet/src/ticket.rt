@@ -3,7 +3,8 @@ ghost use Rattle.std.specs.Prelude.{◌≡◌};
 ghost use Rattle.sheet.specs.Tickets.{ticket_of};
 
 // The serial of a sheet and the number of a cell. It is no `Drop` and cannot be copied: it is spent by settling, by
-// striking or by handing it in. Any two numbers make one, since a sheet has to answer whatever is presented.
+// striking or by handing it in. Any two numbers make one, since a sheet has to answer whatever is presented. It does not hold
+// a `Stub`: that is plain data, and every clause would say `ticket.stub.serial` for `ticket.serial`.
 pub struct Ticket {
     serial: u32,
     cell: u64,

@@ -39,37 +39,22 @@ pub(crate) fn refused<S: System>(
     first: u64,
     second: u64,
 ) -> Option<Refusal> {
-    match sheet.enter(code, first, second, Word::ONE) {
-        Ok(ticket) => {
-            let _ = sheet.strike(ticket);
-            None
-        }
-        Err(refusal) => Some(refusal),
-    }
+    let entered = sheet.enter(code, first, second, Word::ONE);
+    entered.map(|ticket| sheet.strike(ticket)).err()
 }
 
-fn layer_name(layer: Layer) -> &'static str {
-    match layer {
-        Layer::Writer => "writer",
-        Layer::Sheet => "sheet",
-        Layer::Hints => "hints",
-        Layer::Equations => "equations",
-        Layer::Word => "word",
-    }
-}
-
-// What a refusal tells: its number, its two values, and the name of its layer.
+// What a refusal tells: its number, its two values, and its layer.
 pub(crate) fn tells(
     rt: &impl Abort,
     refusal: Option<Refusal>,
     number: u32,
     first: u64,
     second: u32,
-    layer: &'static str,
+    layer: Layer,
 ) -> Result<(), Fail> {
     let refusal = refusal.ok_or("nothing was refused")?;
     assert_eq!(rt; refusal.number(), number);
     assert_eq!(rt; refusal.values(), Values { first, second });
-    assert_eq!(rt; layer_name(refusal.layer()), layer);
+    assert_eq!(rt; refusal.layer(), layer);
     Ok(())
 }

@@ -1,7 +1,8 @@
 // Tickets that are presented: to the sheet that gave them, to another one, and a second time.
 use crate::figures::{TWICE_ONE, TWO, settle_twice_one, started, tells};
 use binary32::Word;
-use hints::Hints;
+use checks::Flaw;
+use hints::{Hints, Layer};
 use sheet::{OpenSheet, Refusal, Stub, Ticket};
 use std::process::Abort;
 use std::test::Fail;
@@ -16,8 +17,8 @@ fn is_bad<S: System>(
 ) -> Result<(), Fail> {
     let settled = sheet.settle(Ticket::new(serial, cell), TWICE_ONE);
     let struck = sheet.strike(Ticket::new(serial, cell));
-    tells(rt, settled.err(), 5, 0, 0, "sheet")?;
-    tells(rt, struck.err(), 5, 0, 0, "sheet")
+    tells(rt, settled.err(), 5, 0, 0, Layer::Sheet)?;
+    tells(rt, struck.err(), 5, 0, 0, Layer::Sheet)
 }
 
 fn spent_by_settling<S: System>(rt: &impl Abort, system: S) -> Result<(), Fail> {
@@ -33,7 +34,13 @@ fn spent_by_a_refusal<S: System>(rt: &impl Abort, system: S) -> Result<(), Fail>
     let mut sheet = started(rt, system, 1);
     let ticket = sheet.enter(1, 0, 1, TWO)?;
     let reply = sheet.settle(ticket, Hints::NONE);
-    assert_eq!(rt; reply, Err(Refusal::Width { cell: 2, hint: 3 }));
+    assert_eq!(rt;
+        reply,
+        Err(Refusal::Flawed {
+            cell: 2,
+            flaw: Flaw::Width(3)
+        })
+    );
     is_bad(rt, &mut sheet, 7, 2)
 }
 
@@ -75,7 +82,7 @@ fn handed_in<S: System>(rt: &impl Abort, system: S) -> Result<(), Fail> {
     let sheet = sheet.close();
     let stub = sheet.hand_in(ticket);
     assert_eq!(rt; stub, Stub { serial: 7, cell: 2 });
-    tells(rt, sheet.read(2).err(), 4, 1, 0, "sheet")?;
+    tells(rt, sheet.read(2).err(), 4, 1, 0, Layer::Sheet)?;
     let other = sheet.hand_in(Ticket::new(8, 300));
     assert_eq!(rt;
         other,
@@ -85,7 +92,7 @@ fn handed_in<S: System>(rt: &impl Abort, system: S) -> Result<(), Fail> {
         }
     );
     assert_eq!(rt; sheet.read(1), Ok(Word::ONE));
-    tells(rt, sheet.read(3).err(), 3, 1, 0, "sheet")
+    tells(rt, sheet.read(3).err(), 3, 1, 0, Layer::Sheet)
 }
 
 #[test]

@@ -1,8 +1,8 @@
 // The step 1 + 1 = 2, and one figure of it changed at a time.
 use crate::figures::{TWICE_ONE, TWO, started, tells};
 use binary32::Word;
-use hints::Hints;
-use sheet::Refusal;
+use hints::{Hints, Layer};
+use sheet::{Operand, Refusal};
 use std::process::Abort;
 use std::test::Fail;
 use systems::{Pair, System, Wrapping};
@@ -24,16 +24,23 @@ fn refuses<S: System>(
     hints: Hints,
     number: u32,
     hint: u32,
-    layer: &'static str,
+    layer: Layer,
 ) -> Result<(), Fail> {
     let mut sheet = started(rt, system, 1);
     let ticket = sheet.enter(1, 0, 1, word)?;
     let reply = sheet.settle(ticket, hints);
     tells(rt, reply.err(), number, 2, hint, layer)?;
-    assert_eq!(rt; sheet.read(2), Err(Refusal::NotAccepted { operand: 1 }));
+    assert_eq!(rt;
+        sheet.read(2),
+        Err(Refusal::NotAccepted {
+            operand: Operand::First
+        })
+    );
     assert_eq!(rt;
         sheet.close().read(2),
-        Err(Refusal::NotAccepted { operand: 1 })
+        Err(Refusal::NotAccepted {
+            operand: Operand::First
+        })
     );
     Ok(())
 }
@@ -48,11 +55,11 @@ fn refuses_each<S: System>(rt: &impl Abort, system: S) -> Result<(), Fail> {
     let drop = Hints { drop: 1, ..right };
     let up = Hints { up: 1, ..right };
     let word = Word { bits: 0x4000_0001 };
-    refuses(rt, system, TWO, lift, 6, 3, "hints")?;
-    refuses(rt, system, TWO, main, 7, 0, "equations")?;
-    refuses(rt, system, TWO, drop, 8, 0, "equations")?;
-    refuses(rt, system, TWO, up, 9, 0, "equations")?;
-    refuses(rt, system, word, right, 10, 0, "word")
+    refuses(rt, system, TWO, lift, 6, 3, Layer::Hints)?;
+    refuses(rt, system, TWO, main, 7, 0, Layer::Equations)?;
+    refuses(rt, system, TWO, drop, 8, 0, Layer::Equations)?;
+    refuses(rt, system, TWO, up, 9, 0, Layer::Equations)?;
+    refuses(rt, system, word, right, 10, 0, Layer::Word)
 }
 
 #[test]

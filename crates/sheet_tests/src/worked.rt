@@ -29,15 +29,7 @@ impl Row {
 }
 
 fn settles<S: System>(rt: &impl Abort, system: S, row: Row) -> Result<(), Fail> {
-    let [main, rest, lift, keep, drop, up] = row.hints;
-    let hints = Hints {
-        main,
-        rest,
-        lift,
-        keep,
-        drop,
-        up,
-    };
+    let hints = Hints::from(row.hints);
     let word = Word { bits: row.word };
     let mut sheet = OpenSheet::new(7, 1, system);
     assert_eq!(rt; sheet.input(Word { bits: row.first }), Ok(0));
