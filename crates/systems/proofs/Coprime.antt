@@ -3,8 +3,8 @@
 use Rattle.std.proofs.Common.{◌≡◌, ℕ, ◌+◌, ◌-◌, ◌*◌, ◌/◌, ◌%◌, ◌<◌, ◌≤◌, sym, ap, ◌∙◌, inl, inr, mod-lt, mod-eq_of_lt, mul-le-mul_left, arith}
 use native.Mathlib.Nat.{div-add-mod, mul-sub, mul-mod_left, mul-add-mod_self_right, add-mul-mod_self_left, add-mod-mod, mod-mod_of_dvd, dvd-mul_left, dvd-mul_right}
 use Rattle.std.proofs.lemmas.Bool.{cases_lt}
+use Rattle.std.proofs.lemmas.Nat.{mul-mod, mul-mod_second}
 use Rattle.systems.specs.Fixed.{Fixed}
-use Rattle.systems.proofs.Remainders.{mul_mod_mod, product_mod}
 
 -- numbers with the same remainder lie a multiple of the modulus apart
 pub apart_by_multiple : (m x y : ℕ) → x ≤ y → x % m ≡ y % m → y - x ≡ m * (y / m - x / m)
@@ -34,7 +34,7 @@ module _ (p q u v : ℕ) (coprime : u * p ≡ v * q + 1) where
   steps_come_to_gap : (a gap : ℕ) → (a + p * (gap * u % q)) % q ≡ (a + gap) % q
   steps_come_to_gap a gap =
       let multiples : a + p * (gap * u) ≡ gap * v * q + (a + gap) = omega (arith, ap (λ n. gap * n) coprime) in
-      sym (add-mod-mod a (p * (gap * u % q)) q) ∙ ap (λ n. (a + n) % q) (mul_mod_mod p (gap * u) q) ∙ add-mod-mod a (p * (gap * u)) q
+      sym (add-mod-mod a (p * (gap * u % q)) q) ∙ ap (λ n. (a + n) % q) (mul-mod_second p (gap * u) q) ∙ add-mod-mod a (p * (gap * u)) q
       ∙ ap (λ n. n % q) multiples ∙ mul-add-mod_self_right (gap * v) q (a + gap)
 
   -- the number that a and b fix, where gap leads from a to b modulo q
@@ -61,4 +61,4 @@ module _ {p q : ℕ} where
   -- the products of the remainders fix the remainder of the product
   pub fixed_product : {a b c d x y z : ℕ} → Fixed p q a b x → Fixed p q c d y → Fixed p q (a * c % p) (b * d % q) z → z ≡ x * y % (p * q)
   fixed_product {x = x} {y = y} left right both =
-      fixed_remainder both (x * y) (let s = product_mod x y p in let l = left.first_left in let r = right.first_left in cc) (let s = product_mod x y q in let l = left.second_left in let r = right.second_left in cc)
+      fixed_remainder both (x * y) (let s = mul-mod x y p in let l = left.first_left in let r = right.first_left in cc) (let s = mul-mod x y q in let l = left.second_left in let r = right.second_left in cc)

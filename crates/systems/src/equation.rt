@@ -1,49 +1,57 @@
 // A test of an equation between sums of products, in any system.
-ghost use Rattle.std.specs.Prelude.{◌≡◌, ◌+◌, ◌*◌, ◌%◌, ◌^◌, ◌<◌, ◌==◌};
+ghost use Rattle.std.specs.Prelude.{◌≡◌, ◌%◌, ◌^◌, ◌<◌, ◌==◌};
+ghost use Rattle.systems.specs.Equations.{left_side, right_side, balanced};
 
 use crate::system::System;
 
-// An element for `first * second + third * fourth`.
-fn two_products<S: System>(
-    system: &S,
-    first: u64,
-    second: u64,
-    third: u64,
-    fourth: u64,
-) -> S::Element
-    ensures remainders { S.remainder result ≡ (first * second + third * fourth) % S.modulus }
-    ensures numbers { first * second + third * fourth < 2 ^ 56 → S.remainder result ≡ first * second + third * fourth }
-{
-    let front = system.product(system.take_in(first), system.take_in(second));
-    let back = system.product(system.take_in(third), system.take_in(fourth));
-    system.sum(front, back)
+// The equation `first` × `second` + `third` × `fourth` = `fifth` × `sixth` + `seventh`.
+#[derive(Clone, Copy, PartialEq, Eq, Debug)]
+pub struct Equation {
+    pub first: u64,
+    pub second: u64,
+    pub third: u64,
+    pub fourth: u64,
+    pub fifth: u64,
+    pub sixth: u64,
+    pub seventh: u64,
 }
 
-// An element for `first * second + third`.
-fn product_and_term<S: System>(system: &S, first: u64, second: u64, third: u64) -> S::Element
-    ensures remainders { S.remainder result ≡ (first * second + third) % S.modulus }
-    ensures numbers { first * second + third < 2 ^ 56 → S.remainder result ≡ first * second + third }
-{
-    let product = system.product(system.take_in(first), system.take_in(second));
-    system.sum(product, system.take_in(third))
-}
+impl Equation {
+    // The one whose seven numbers are 0.
+    pub const ZERO: Equation = Equation {
+        first: 0,
+        second: 0,
+        third: 0,
+        fourth: 0,
+        fifth: 0,
+        sixth: 0,
+        seventh: 0,
+    };
 
-// Whether `first * second + third * fourth` has the same remainder as `fifth * sixth + seventh`. Where both are below 2^56
-// that is whether they are equal, in every system.
-pub fn balances<S: System>(
-    system: &S,
-    first: u64,
-    second: u64,
-    third: u64,
-    fourth: u64,
-    fifth: u64,
-    sixth: u64,
-    seventh: u64,
-) -> bool
-    ensures remainders { result ≡ ((first * second + third * fourth) % S.modulus == (fifth * sixth + seventh) % S.modulus) }
-    ensures numbers { first * second + third * fourth < 2 ^ 56 → fifth * sixth + seventh < 2 ^ 56 → result ≡ (first * second + third * fourth == fifth * sixth + seventh) }
-{
-    let left = two_products(system, first, second, third, fourth);
-    let right = product_and_term(system, fifth, sixth, seventh);
-    system.same(left, right)
+    // An element for the left side.
+    #[tactic(auto, using(crate::proofs::Remainders::two_products))]
+    fn left<S: System>(self, system: &S) -> S::Element
+        ensures { S.remainder result ≡ left_side self % S.modulus }
+    {
+        let front = system.product(system.take_in(self.first), system.take_in(self.second));
+        let back = system.product(system.take_in(self.third), system.take_in(self.fourth));
+        system.sum(front, back)
+    }
+
+    // An element for the right side.
+    #[tactic(auto, using(crate::proofs::Remainders::product_and_term))]
+    fn right<S: System>(self, system: &S) -> S::Element
+        ensures { S.remainder result ≡ right_side self % S.modulus }
+    {
+        let product = system.product(system.take_in(self.fifth), system.take_in(self.sixth));
+        system.sum(product, system.take_in(self.seventh))
+    }
+
+    // Whether both sides have the same remainder. Where both are below 2^56 that is whether they are equal, in every system.
+    pub fn holds<S: System>(self, system: &S) -> bool
+        ensures remainders { result ≡ (left_side self % S.modulus == right_side self % S.modulus) }
+        ensures numbers { left_side self < 2 ^ 56 → right_side self < 2 ^ 56 → result ≡ balanced self }
+    {
+        system.same(self.left(system), self.right(system))
+    }
 }

@@ -9,7 +9,7 @@ mod system;
 mod tests;
 mod wrapping;
 
-pub use equation::balances;
+pub use equation::Equation;
 pub use pair::{Pair, Residues};
 pub use system::System;
 pub use wrapping::{Wrapped, Wrapping};

@@ -17,7 +17,7 @@ const SECOND_MODULUS: u64 = 2013265921;
 const FIRST_INVERSE: u64 = 1039104991;
 
 // A number modulo the product of the two moduli, by its remainder modulo each.
-#[derive(Clone, Copy)]
+#[derive(Clone, Copy, PartialEq, Eq)]
 pub struct Residues {
     first: Residue<FIRST_MODULUS>,
     second: Residue<SECOND_MODULUS>,
@@ -49,20 +49,21 @@ impl System for Pair {
 
     fn sum(&self, a: Residues, b: Residues) -> Residues {
         Residues {
-            first: a.first.plus(b.first),
-            second: a.second.plus(b.second),
+            first: a.first + b.first,
+            second: a.second + b.second,
         }
     }
 
+    #[tactic(auto, using(crate::proofs::Joined::joined_product))]
     fn product(&self, a: Residues, b: Residues) -> Residues {
         Residues {
-            first: a.first.times(b.first),
-            second: a.second.times(b.second),
+            first: a.first * b.first,
+            second: a.second * b.second,
         }
     }
 
     fn same(&self, a: Residues, b: Residues) -> bool {
-        a.first.is(b.first) & a.second.is(b.second)
+        a == b
     }
 
     // The one number below the modulus that leaves both remainders: as many steps of the first modulus above the

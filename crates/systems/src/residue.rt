@@ -1,8 +1,10 @@
 // Remainders modulo a number of at most 32 bits, which is a parameter of the type.
-ghost use Rattle.std.specs.Prelude.{◌≡◌, ◌+◌, ◌*◌, ◌%◌, ◌^◌, ◌<◌, ◌≤◌, ◌==◌};
+ghost use Rattle.std.specs.Prelude.{◌≡◌, ◌+◌, ◌*◌, ◌%◌, ◌^◌, ◌<◌, ◌≤◌};
+
+use std::ops::{Add, Mul};
 
 // A remainder modulo `M`. Two remainders are below 2^32, so that their sum and their product fit 64 bits.
-#[derive(Clone, Copy)]
+#[derive(Clone, Copy, PartialEq, Eq)]
 pub(crate) struct Residue<const M: u64> {
     value: u64,
     ghost below: { value < M },
@@ -24,26 +26,28 @@ impl<const M: u64> Residue<M> {
     {
         self.value
     }
+}
 
-    pub(crate) fn plus(self, other: Self) -> Self
-        ensures { result.value ≡ (self.entry.value + other.entry.value) % M }
-    {
+impl<const M: u64> Add for Residue<M> {
+    type Output = Residue<M>;
+
+    ghost add_gives = { λ a b sum. sum.value ≡ (a.value + b.value) % M };
+
+    fn add(self, other: Residue<M>) -> Residue<M> {
         Residue {
             value: (self.value + other.value) % M,
         }
     }
+}
 
-    pub(crate) fn times(self, other: Self) -> Self
-        ensures { result.value ≡ self.entry.value * other.entry.value % M }
-    {
+impl<const M: u64> Mul for Residue<M> {
+    type Output = Residue<M>;
+
+    ghost mul_gives = { λ a b product. product.value ≡ a.value * b.value % M };
+
+    fn mul(self, other: Residue<M>) -> Residue<M> {
         Residue {
             value: self.value * other.value % M,
         }
-    }
-
-    pub(crate) fn is(self, other: Self) -> bool
-        ensures { result ≡ (self.entry.value == other.entry.value) }
-    {
-        self.value == other.value
     }
 }

@@ -1,4 +1,4 @@
-use crate::equation::balances;
+use crate::equation::Equation;
 use crate::pair::Pair;
 use crate::system::System;
 use crate::wrapping::Wrapping;
@@ -54,10 +54,28 @@ fn sameness(rt: HostRuntime) {
 
 #[test]
 fn equations(rt: HostRuntime) {
-    assert!(rt; balances(&Wrapping, 2, 3, 4, 5, 4, 6, 2));
-    assert!(rt; balances(&Pair, 2, 3, 4, 5, 4, 6, 2));
-    assert!(rt; !balances(&Pair, 2, 3, 4, 5, 4, 6, 3));
+    let right = Equation {
+        first: 2,
+        second: 3,
+        third: 4,
+        fourth: 5,
+        fifth: 4,
+        sixth: 6,
+        seventh: 2,
+    };
+    assert!(rt; right.holds(&Wrapping));
+    assert!(rt; right.holds(&Pair));
+    let wrong = Equation {
+        seventh: 3,
+        ..right
+    };
+    assert!(rt; !wrong.holds(&Pair));
     // 2^64 is 0 to the one system and not to the other.
-    assert!(rt; balances(&Wrapping, 4294967296, 4294967296, 0, 0, 0, 0, 0));
-    assert!(rt; !balances(&Pair, 4294967296, 4294967296, 0, 0, 0, 0, 0));
+    let full = Equation {
+        first: 4294967296,
+        second: 4294967296,
+        ..Equation::ZERO
+    };
+    assert!(rt; full.holds(&Wrapping));
+    assert!(rt; !full.holds(&Pair));
 }

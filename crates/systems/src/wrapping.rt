@@ -5,7 +5,7 @@ ghost use Rattle.std.proofs.Common.{rules};
 use crate::system::System;
 
 // A number modulo 2^64.
-#[derive(Clone, Copy)]
+#[derive(Clone, Copy, PartialEq, Eq)]
 pub struct Wrapped {
     number: u64,
     ghost below: { number < 2 ^ 64 },
@@ -46,7 +46,7 @@ impl System for Wrapping {
     }
 
     fn same(&self, a: Wrapped, b: Wrapped) -> bool {
-        a.number == b.number
+        a == b
     }
 
     fn read_back(&self, e: Wrapped) -> u64 {
