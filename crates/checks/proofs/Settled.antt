@@ -1,6 +1,6 @@
 -- A claim passes all checks just where it is what the writer gives: passing them is to back the step, the
 -- writer's answer backs it, and no other does.
-use Rattle.std.proofs.Common.{◌≡◌, ℕ, Bool, eqb, Ok, sym, refl, ap, ◌∙◌, subst, arith}
+use Rattle.std.proofs.Common.{◌≡◌, ℕ, Bool, eqb, Ok, ◌↔◌, sym, refl, ap, ◌∙◌, subst, arith}
 use Rattle.std.proofs.lemmas.Bool.{eqb-true, eq-eqb}
 use Rattle.binary32.specs.Normal.{ProperStep}
 use Rattle.binary32.specs.Steps.{step_of}
@@ -12,7 +12,7 @@ use Rattle.binary32.specs.declared.word.Word.{Word}
 use Rattle.binary32.proofs.Steps.{step_proper}
 use Rattle.hints.specs.Backs.{Backs, NoHints}
 use Rattle.hints.specs.Cases.{case_from}
-use Rattle.hints.specs.Scheme.{exponent_of, cut_of, magnitude_from}
+use Rattle.hints.specs.Scheme.{exponent_of, cut_of, up_of, magnitude_from}
 use Rattle.hints.specs.Settings.{setting_of}
 use Rattle.hints.specs.Writer.{rounded_with, written_for}
 use Rattle.hints.specs.declared.setting.Setting.{Setting}
@@ -22,14 +22,17 @@ use Rattle.hints.proofs.Backed.{rounded_backs}
 use Rattle.hints.proofs.Complete.{scheme_is_written}
 use Rattle.hints.proofs.Settings.{setting_fits}
 use Rattle.hints.proofs.Unique.{backs_unique}
-use Rattle.checks.specs.Equations.{balanced, first_equation, second_equation}
-use Rattle.hints.specs.Scheme.{up_of}
-use Rattle.checks.specs.Examined.{Outcome, examined_direct, examined_rounded, examined_case, examined, claim_of, Sound}
+use Rattle.systems.specs.Equations.{balanced}
+use Rattle.checks.specs.Equations.{first_equation, second_equation}
+use Rattle.checks.specs.Examined.{Outcome, examined_direct, examined_rounded, examined_case, examined, Sound}
 use Rattle.checks.specs.Widths.{front_outside, back_outside, some_hint}
 use Rattle.checks.specs.declared.flaw.Flaw.TheVariants as flaw
 use Rattle.checks.proofs.Passed.{check_passed, check_passes, widths_passed, widths_pass, front_within, within_front, back_within, within_back, no_hints, hints_none, first_holds, holds_first}
 
-module _ (σ : Setting) (claimed : Word) (h : Hints) where
+module _ (σ : Setting) (w : Written) where
+  abbrev h : Hints
+  h = w.hints
+
   abbrev k : ℕ
   k = cut_of σ.scale h.lift
 
@@ -46,14 +49,14 @@ module _ (σ : Setting) (claimed : Word) (h : Hints) where
   word = composed σ.negative (magnitude_from (exponent_of σ.scale h.lift) h.keep h.up)
 
   -- a claim that passes backs the step
-  passed_backs : examined_rounded σ claimed h ≡ Ok tt → Backs σ (claim_of claimed h)
+  passed_backs : examined_rounded σ w ≡ Ok tt → Backs σ w
   passed_backs ok =
       let fronts = widths_passed (front_outside σ.kind σ.second h) _ ok in
       let backs = widths_passed (back_outside k h) _ fronts.1 in
       let firsts = check_passed first_test flaw.FirstEquation _ backs.1 in
       let seconds = check_passed second_test flaw.SecondEquation _ firsts.1 in
       let ups = check_passed up_test flaw.Up _ seconds.1 in
-      let words = check_passed (eqb claimed.bits word) flaw.Word (Ok tt) ups.1 in
+      let words = check_passed (eqb w.word.bits word) flaw.Word (Ok tt) ups.1 in
       let front = front_within σ.kind σ.second h fronts.0 in
       let back = back_within k h backs.0 in
       record {
@@ -72,7 +75,7 @@ module _ (σ : Setting) (claimed : Word) (h : Hints) where
       }
 
   -- a claim that backs the step passes
-  backs_passes : Backs σ (claim_of claimed h) → examined_rounded σ claimed h ≡ Ok tt
+  backs_passes : Backs σ w → examined_rounded σ w ≡ Ok tt
   backs_passes backs =
       widths_pass (front_outside σ.kind σ.second h) _
       (within_front σ.kind σ.second h (record {
@@ -88,24 +91,24 @@ module _ (σ : Setting) (claimed : Word) (h : Hints) where
       (holds_first σ.kind σ.first σ.second σ.shift h.main h.rest backs.first_balance)
       (check_passes second_test flaw.SecondEquation _ (eq-eqb _ _ (omega (arith, backs.second_balance)))
       (check_passes up_test flaw.Up _ (eq-eqb _ _ backs.up_rule)
-      (check_passes (eqb claimed.bits word) flaw.Word (Ok tt) (eq-eqb _ _ backs.word_is) refl)))))
+      (check_passes (eqb w.word.bits word) flaw.Word (Ok tt) (eq-eqb _ _ backs.word_is) refl)))))
 
-module _ (word claimed : Word) (h : Hints) where
+module _ (word : Word) (w : Written) where
   -- a claim that passes has the word of the direct step and no hints
-  direct_passed : examined_direct word claimed h ≡ Ok tt → claim_of claimed h ≡ written_for (Direct word)
+  direct_passed : examined_direct word w ≡ Ok tt → w ≡ written_for (Direct word)
   direct_passed ok =
-      let widths = widths_passed (some_hint h) _ ok in
-      let words = check_passed (eqb claimed.bits word.bits) flaw.Word (Ok tt) widths.1 in
+      let widths = widths_passed (some_hint w.hints) _ ok in
+      let words = check_passed (eqb w.word.bits word.bits) flaw.Word (Ok tt) widths.1 in
       let same = eqb-true _ _ words.0 in
-      let zeros = no_hints h widths.0 in
+      let zeros = no_hints w.hints widths.0 in
       λ i. record {
         word = record { bits = same i };
         hints = record { main = zeros.no_main i; rest = zeros.no_rest i; lift = zeros.no_lift i; keep = zeros.no_keep i; drop = zeros.no_drop i; up = zeros.no_up i };
       }
 
-  direct_passes : claim_of claimed h ≡ written_for (Direct word) → examined_direct word claimed h ≡ Ok tt
+  direct_passes : w ≡ written_for (Direct word) → examined_direct word w ≡ Ok tt
   direct_passes same =
-      let zeros : NoHints h = record {
+      let zeros : NoHints w.hints = record {
         no_main = ap (λ (w : Written). w.hints.main) same;
         no_rest = ap (λ (w : Written). w.hints.rest) same;
         no_lift = ap (λ (w : Written). w.hints.lift) same;
@@ -113,21 +116,18 @@ module _ (word claimed : Word) (h : Hints) where
         no_drop = ap (λ (w : Written). w.hints.drop) same;
         no_up = ap (λ (w : Written). w.hints.up) same;
       } in
-      widths_pass (some_hint h) _ (hints_none h zeros)
-      (check_passes (eqb claimed.bits word.bits) flaw.Word (Ok tt) (eq-eqb _ _ (ap (λ (w : Written). w.word.bits) same)) refl)
+      widths_pass (some_hint w.hints) _ (hints_none w.hints zeros)
+      (check_passes (eqb w.word.bits word.bits) flaw.Word (Ok tt) (eq-eqb _ _ (ap (λ (w : Written). w.word.bits) same)) refl)
 
-step_settles : (step : Step) → ProperStep step → (claimed : Word) (h : Hints) →
-    (examined_case (case_from step) claimed h ≡ Ok tt → claim_of claimed h ≡ written_for step)
-    × (claim_of claimed h ≡ written_for step → examined_case (case_from step) claimed h ≡ Ok tt)
-step_settles (Direct word) proper claimed h = (direct_passed word claimed h, direct_passes word claimed h)
-step_settles (Rounded negative x) proper claimed h =
+step_settles : (step : Step) → ProperStep step → (w : Written) → (examined_case (case_from step) w ≡ Ok tt) ↔ (w ≡ written_for step)
+step_settles (Direct word) proper w = (direct_passed word w, direct_passes word w)
+step_settles (Rounded negative x) proper w =
     let σ = setting_of negative x in
     let backed = rounded_backs σ (setting_fits negative x proper) in
-    (λ ok. backs_unique σ (claim_of claimed h) (rounded_with σ) (passed_backs σ claimed h ok) backed, λ same. backs_passes σ claimed h (subst (λ (w : Written). Backs σ w) (sym same) backed))
+    (λ ok. backs_unique σ w (rounded_with σ) (passed_backs σ w ok) backed, λ same. backs_passes σ w (subst (λ (v : Written). Backs σ v) (sym same) backed))
 
-pub examined_sound : (op : Operation) (a b : ℕ) (claimed : Word) (h : Hints) (found : Outcome) →
-    found ≡ examined op a b claimed h → Sound found op a b claimed h
-examined_sound op a b claimed h found is =
-    let settles = step_settles (step_of op a b) (step_proper op a b) claimed h in
+pub examined_sound : (op : Operation) (a b : ℕ) (w : Written) (found : Outcome) → found ≡ examined op a b w → Sound found op a b w
+examined_sound op a b w found is =
+    let settles = step_settles (step_of op a b) (step_proper op a b) w in
     let written = scheme_is_written op a b in
     (λ ok. settles.0 (sym is ∙ ok) ∙ written, λ same. is ∙ settles.1 (same ∙ sym written))

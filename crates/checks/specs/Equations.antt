@@ -1,22 +1,14 @@
 -- The two equations of a rounded step, over whole numbers.
-use Rattle.std.specs.Prelude.{ℕ, ◌+◌, ◌*◌, ◌^◌, ◌<◌, Bool, ◌==◌}
+use Rattle.std.specs.Prelude.{ℕ, ◌^◌, ◌<◌}
 use Rattle.hints.specs.declared.setting.Kind.{Kind}
 use Rattle.hints.specs.declared.setting.Kind.TheVariants.{Sum, Difference, Product, Quotient, Root}
 use Rattle.hints.specs.declared.writer.Hints.{Hints}
-use Rattle.checks.specs.declared.equation.Equation.{Equation}
+use Rattle.systems.specs.Equations.{left_side, right_side}
+use Rattle.systems.specs.declared.equation.Equation.{Equation}
 
 -- a × b + c × d = e × f + g
 abbrev pub terms : ℕ → ℕ → ℕ → ℕ → ℕ → ℕ → ℕ → Equation
 terms a b c d e f g = record { first = a; second = b; third = c; fourth = d; fifth = e; sixth = f; seventh = g }
-
-abbrev pub left_side : Equation → ℕ
-left_side q = q.first * q.second + q.third * q.fourth
-
-abbrev pub right_side : Equation → ℕ
-right_side q = q.fifth * q.sixth + q.seventh
-
-abbrev pub balanced : Equation → Bool
-balanced q = left_side q == right_side q
 
 -- every system tells numbers below 2^56 apart
 pub record Narrow (q : Equation) : Type 0 where

@@ -1,13 +1,13 @@
 // What can be wrong with a claim.
-ghost use Rattle.std.specs.Prelude.{◌≡◌};
+ghost use Rattle.std.specs.Prelude.{◌≡◌, Ok, Err, if◌then◌else◌};
 ghost use Rattle.checks.specs.Flaws.{told_of};
 
-use hints::Layer;
+use hints::{Hint, Layer};
 
 #[derive(Clone, Copy, PartialEq, Eq, Debug)]
 pub enum Flaw {
-    // The hint with this number, from 1 to 6, is outside its width.
-    Width(u32),
+    // This hint is outside its width.
+    Width(Hint),
     FirstEquation,
     SecondEquation,
     Up,
@@ -38,4 +38,11 @@ impl Flaw {
             Flaw::Word => Layer::Word,
         }
     }
+}
+
+// A check finds this flaw, unless it passes.
+pub(crate) fn check(passes: bool, flaw: Flaw) -> Result<(), Flaw>
+    ensures { result ≡ (if passes then Ok tt else Err flaw) }
+{
+    if passes { Ok(()) } else { Err(flaw) }
 }

@@ -1,7 +1,7 @@
 use crate::claim::examine;
 use crate::flaw::Flaw;
 use binary32::{Operation, Word};
-use hints::Hints;
+use hints::{Hint, Hints, Written};
 use std::process::Abort;
 use systems::{Pair, System, Wrapping};
 
@@ -21,7 +21,11 @@ const TWICE_ONE: Hints = Hints {
 
 // What is found in a claim of the sum 1 + 1.
 fn found<S: System>(system: &S, word: u32, hints: Hints) -> Result<(), Flaw> {
-    examine(system, Operation::Add, ONE, ONE, Word { bits: word }, hints)
+    let claimed = Written {
+        word: Word { bits: word },
+        hints,
+    };
+    examine(system, Operation::Add, ONE, ONE, claimed)
 }
 
 // One figure changed at a time.
@@ -39,12 +43,15 @@ fn refuses<S: System>(rt: &impl Abort, system: &S) {
     assert_eq!(rt; found(system, 0x4000_0000, up), Err(Flaw::Up));
     assert_eq!(rt; found(system, 0x4000_0001, right), Err(Flaw::Word));
     let lift = Hints { lift: 1, ..right };
-    assert_eq!(rt; found(system, 0x4000_0000, lift), Err(Flaw::Width(3)));
+    assert_eq!(rt;
+        found(system, 0x4000_0000, lift),
+        Err(Flaw::Width(Hint::Lift))
+    );
 }
 
 #[test]
 fn numbers(rt: HostRuntime) {
-    assert_eq!(rt; Flaw::Width(3).number(), 6);
+    assert_eq!(rt; Flaw::Width(Hint::Lift).number(), 6);
     assert_eq!(rt; Flaw::Word.number(), 10);
 }
 
@@ -66,12 +73,13 @@ fn quotient(rt: HostRuntime) {
     };
     let three = Word { bits: 0x4040_0000 };
     let third = Word { bits: 0x3EAA_AAAB };
+    let claimed = Written { word: third, hints };
     assert_eq!(rt;
-        examine(&Pair, Operation::Divide, ONE, three, third, hints),
+        examine(&Pair, Operation::Divide, ONE, three, claimed),
         Ok(())
     );
     assert_eq!(rt;
-        examine(&Wrapping, Operation::Divide, ONE, three, third, hints),
+        examine(&Wrapping, Operation::Divide, ONE, three, claimed),
         Ok(())
     );
 }
@@ -87,12 +95,13 @@ fn root(rt: HostRuntime) {
         up: 0,
     };
     let word = Word { bits: 0x3FB5_04F3 };
+    let claimed = Written { word, hints };
     assert_eq!(rt;
-        examine(&Pair, Operation::SquareRoot, TWO, ONE, word, hints),
+        examine(&Pair, Operation::SquareRoot, TWO, ONE, claimed),
         Ok(())
     );
     assert_eq!(rt;
-        examine(&Wrapping, Operation::SquareRoot, TWO, ONE, word, hints),
+        examine(&Wrapping, Operation::SquareRoot, TWO, ONE, claimed),
         Ok(())
     );
 }
@@ -100,16 +109,21 @@ fn root(rt: HostRuntime) {
 #[test]
 fn direct(rt: HostRuntime) {
     let zero = Word::ZERO;
+    let right = Written {
+        word: zero,
+        hints: Hints::NONE,
+    };
     let hints = Hints {
         keep: 1,
         ..Hints::NONE
     };
+    let wrong = Written { hints, ..right };
     assert_eq!(rt;
-        examine(&Pair, Operation::Multiply, zero, zero, zero, Hints::NONE),
+        examine(&Pair, Operation::Multiply, zero, zero, right),
         Ok(())
     );
     assert_eq!(rt;
-        examine(&Pair, Operation::Multiply, zero, zero, zero, hints),
-        Err(Flaw::Width(4))
+        examine(&Pair, Operation::Multiply, zero, zero, wrong),
+        Err(Flaw::Width(Hint::Keep))
     );
 }

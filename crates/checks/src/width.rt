@@ -1,18 +1,12 @@
 // The widths of the hints.
-ghost use Rattle.std.specs.Prelude.{◌≡◌, ◌^◌, ◌<◌, ◌≤◌};
+ghost use Rattle.std.specs.Prelude.{◌≡◌, ◌^◌, ◌<◌, ◌≤◌, Ok};
 ghost use Rattle.hints.specs.Backs.{rest_limit};
 ghost use Rattle.hints.specs.Scheme.{main_width};
+ghost use Rattle.checks.specs.Examined.{check_widths};
 ghost use Rattle.checks.specs.Widths.{lift_fits, front_outside, back_outside, some_hint};
 
-use hints::{Hints, Kind, Setting};
-
-// 2^`k`.
-pub(crate) fn power(k: u32) -> u64
-    requires { k < 64 }
-    ensures { result ≡ 2 ^ k }
-{
-    1 << k
-}
+use crate::flaw::{Flaw, check};
+use hints::{Cut, Hint, Hints, Kind, Setting};
 
 // How many bits main has at most.
 fn main_width(kind: Kind) -> u32
@@ -47,64 +41,47 @@ fn lift_fits(lift: u64, main: u64) -> bool
         return false;
     }
     let free = 50 - lift as u32;
-    power(free) <= main && main < power(free + 1)
+    1 << free <= main && main < 1 << (free + 1)
 }
 
-// The first of main, rest and lift that is outside its width.
-pub(crate) fn front_outside(setting: Setting, hints: Hints) -> Option<u32>
-    ensures { result ≡ front_outside setting.kind setting.second hints }
+// Whether main, rest and lift are within their widths.
+pub(crate) fn check_front(setting: Setting, hints: Hints) -> Result<(), Flaw>
+    ensures { result ≡ check_widths (front_outside setting.kind setting.second hints) (Ok tt) }
 {
-    if hints.main >= power(main_width(setting.kind)) {
-        return Some(1);
-    }
-    if hints.rest >= rest_limit(setting.kind, setting.second, hints.main) {
-        return Some(2);
-    }
-    if !lift_fits(hints.lift, hints.main) {
-        return Some(3);
-    }
-    None
+    let Setting { kind, second, .. } = setting;
+    let Hints {
+        main,
+        rest,
+        lift,
+        ..
+    } = hints;
+    check(main < 1 << main_width(kind), Flaw::Width(Hint::Main))?;
+    check(
+        rest < rest_limit(kind, second, main),
+        Flaw::Width(Hint::Rest),
+    )?;
+    check(lift_fits(lift, main), Flaw::Width(Hint::Lift))
 }
 
-// The first of keep, drop and up that is outside its width, where the cut is at bit `k`. Nothing is
-// left to keep above bit 51.
-pub(crate) fn back_outside(k: u32, hints: Hints) -> Option<u32>
-    requires { k ≤ 52 }
-    ensures { result ≡ back_outside k hints }
+// Whether keep, drop and up are within their widths. Nothing is left to keep above bit 51.
+pub(crate) fn check_back(cut: Cut, hints: Hints) -> Result<(), Flaw>
+    ensures { result ≡ check_widths (back_outside cut.k hints) (Ok tt) }
 {
-    if hints.keep >= power(51u32.saturating_sub(k)) {
-        return Some(4);
-    }
-    if hints.drop >= power(k) {
-        return Some(5);
-    }
-    if hints.up > 1 {
-        return Some(6);
-    }
-    None
+    let k = cut.place();
+    let Hints { keep, drop, up, .. } = hints;
+    check(keep < 1 << 51u32.saturating_sub(k), Flaw::Width(Hint::Keep))?;
+    check(drop < 1 << k, Flaw::Width(Hint::Drop))?;
+    check(up <= 1, Flaw::Width(Hint::Up))
 }
 
-// The first hint that is not 0.
-pub(crate) fn some_hint(hints: Hints) -> Option<u32>
-    ensures { result ≡ some_hint hints }
+// Whether every hint is 0.
+pub(crate) fn check_none(hints: Hints) -> Result<(), Flaw>
+    ensures { result ≡ check_widths (some_hint hints) (Ok tt) }
 {
-    if hints.main != 0 {
-        return Some(1);
-    }
-    if hints.rest != 0 {
-        return Some(2);
-    }
-    if hints.lift != 0 {
-        return Some(3);
-    }
-    if hints.keep != 0 {
-        return Some(4);
-    }
-    if hints.drop != 0 {
-        return Some(5);
-    }
-    if hints.up != 0 {
-        return Some(6);
-    }
-    None
+    check(hints.main == 0, Flaw::Width(Hint::Main))?;
+    check(hints.rest == 0, Flaw::Width(Hint::Rest))?;
+    check(hints.lift == 0, Flaw::Width(Hint::Lift))?;
+    check(hints.keep == 0, Flaw::Width(Hint::Keep))?;
+    check(hints.drop == 0, Flaw::Width(Hint::Drop))?;
+    check(hints.up == 0, Flaw::Width(Hint::Up))
 }

@@ -6,5 +6,5 @@ returns g c =
     let x = c.args in
     record {
       value = c.outcome.ensures;
-      sound = examined_sound x.operation x.a.bits x.b.bits x.claimed x.hints c.outcome.result c.outcome.ensures;
+      sound = examined_sound x.operation x.a.bits x.b.bits x.claimed c.outcome.result c.outcome.ensures;
     }
