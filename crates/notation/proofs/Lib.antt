@@ -1,4 +1,4 @@
 pub mod Lines
-pub mod Operands
+pub mod Made
 pub mod Reading
 pub mod Written

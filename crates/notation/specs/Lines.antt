@@ -35,9 +35,9 @@ placed start (Err count) = Err (BadDigit (start + count + 1))
 abbrev pub operand_at : List ℕ → ℕ → Result Word Fault
 operand_at line at = cond (is_space (slice_index line at)) (placed (at + 1) (word_of (drop (at + 1) line))) (Err (MissingWord (at + 1)))
 
--- the line ends at the index
-abbrev pub end_at : List ℕ → ℕ → Request → Result Request Fault
-end_at line at request = cond (length line == at) (Ok request) (Err (TrailingText (at + 1)))
+-- the line ends at the index: then this is read
+abbrev pub end_at : {X : Type 0} → List ℕ → ℕ → X → Result X Fault
+end_at line at read = cond (length line == at) (Ok read) (Err (TrailingText (at + 1)))
 
 -- the first fault is the answer
 abbrev pub and_then : {X Y : Type 0} → Result X Fault → (X → Result Y Fault) → Result Y Fault

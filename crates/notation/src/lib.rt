@@ -5,11 +5,13 @@ mod fault;
 mod line;
 mod name;
 mod numeral;
+mod reader;
 
 pub use fault::Fault;
 pub use line::{Request, read_step};
 pub use name::{name_of, operation_named};
 pub use numeral::{digit, digits, read_word};
+pub use reader::Reader;
 
 #[cfg(test)]
 mod tests {

@@ -5,6 +5,17 @@ ghost use Rattle.notation.specs.Names.{name_of, operation_named};
 
 use binary32::Operation;
 
+const ALL: [Operation; 8] = [
+    Operation::Add,
+    Operation::Subtract,
+    Operation::Multiply,
+    Operation::Divide,
+    Operation::SquareRoot,
+    Operation::Equal,
+    Operation::Less,
+    Operation::AtMost,
+];
+
 // The name of an operation, by which it is found again.
 pub fn name_of(operation: Operation) -> &'static str
     ensures name { result.now ≡ name_of operation }
@@ -35,23 +46,7 @@ pub fn operation_named(name: &[u8]) -> Option<Operation>
     ensures value { result ≡ operation_named name.now }
     ensures name { IfSome result (λ o. name_of o ≡ name.now) }
 {
-    if is_named(name, Operation::Add) {
-        Some(Operation::Add)
-    } else if is_named(name, Operation::Subtract) {
-        Some(Operation::Subtract)
-    } else if is_named(name, Operation::Multiply) {
-        Some(Operation::Multiply)
-    } else if is_named(name, Operation::Divide) {
-        Some(Operation::Divide)
-    } else if is_named(name, Operation::SquareRoot) {
-        Some(Operation::SquareRoot)
-    } else if is_named(name, Operation::Equal) {
-        Some(Operation::Equal)
-    } else if is_named(name, Operation::Less) {
-        Some(Operation::Less)
-    } else if is_named(name, Operation::AtMost) {
-        Some(Operation::AtMost)
-    } else {
-        None
-    }
+    ALL.iter()
+        .copied()
+        .find(|operation| is_named(name, *operation))
 }
