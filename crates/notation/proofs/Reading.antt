@@ -1,10 +1,10 @@
 -- Reading a word digit by digit: how many digits there are, and the number that they write.
-use Rattle.std.proofs.Common.{◌≡◌, ℕ, ◌+◌, ◌*◌, ◌^◌, ◌<◌, ◌≤◌, cond, eqb, true, false, List, [], ◌∷◌, map, length, get_or, take, Ok, Err, Result, min, sym, ap, ◌∙◌, lt_of_lt_of_le, zero-lt-suc, arith}
+use Rattle.std.proofs.Common.{◌≡◌, ℕ, ◌+◌, ◌*◌, ◌^◌, ◌<◌, ◌≤◌, cond, eqb, List, [], ◌∷◌, map, length, get_or, take, Ok, Err, Result, min, sym, ap, ◌∙◌, lt_of_lt_of_le, zero-lt-suc, arith}
 use native.Mathlib.Nat.{pow-le-pow_right}
 use Rattle.std.specs.Int.Digits.{number_from_digits, AllBelowBase}
 use Rattle.std.specs.List.{prefix_len}
 use Rattle.std.proofs.lemmas.Int.Digits.{number_lt, number_push}
-use Rattle.std.proofs.lemmas.List.{length-take, length-map, map_more, take_all, take_min}
+use Rattle.std.proofs.lemmas.List.{length-take, length-map, map_more, take_min}
 use Rattle.std.proofs.lemmas.Bool.{ne_eqb}
 use Rattle.std.proofs.lemmas.Bool.Decides.{nat_tests}
 use Rattle.binary32.specs.declared.word.Word.{Word}

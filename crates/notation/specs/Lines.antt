@@ -2,9 +2,8 @@
 -- Indices count from 0 and columns from 1.
 use Rattle.std.specs.Prelude.{◌≡◌, ℕ, ◌+◌, ◌^◌, ◌<◌, Bool, cond, not, List, [], ◌∷◌, ◌++◌, length, take, drop, Some, None, Ok, Err, Option, Result, ◌==◌, slice_index}
 use Rattle.std.specs.List.{prefix_len}
-use Rattle.binary32.specs.Operations.{code_of}
+use Rattle.binary32.specs.Operations.{is_root}
 use Rattle.binary32.specs.declared.operation.Operation.{Operation}
-use Rattle.binary32.specs.declared.operation.Operation.TheVariants.{SquareRoot}
 use Rattle.binary32.specs.declared.word.Word.{Word}
 use Rattle.notation.specs.Names.{name_of, operation_named}
 use Rattle.notation.specs.Numerals.{word_of, digits_of}
@@ -22,9 +21,6 @@ in_name code = not (is_space code)
 -- where the name ends: at the first space, or at the line's end
 abbrev pub name_end : List ℕ → ℕ
 name_end line = prefix_len in_name line
-
-abbrev pub is_root : Operation → Bool
-is_root operation = code_of operation == code_of SquareRoot
 
 -- a word that was to begin at an index: where it has too few digits, the next should stand after them
 abbrev pub placed : ℕ → Result Word ℕ → Result Word Fault

@@ -16,6 +16,7 @@ pub use reader::Reader;
 #[cfg(test)]
 mod tests {
     use super::*;
+    use binary32::Word;
     use std::process::Abort;
     use std::test::Fail;
 
@@ -34,13 +35,8 @@ mod tests {
     }
 
     fn is_fault(rt: &impl Abort, line: &[u8], fault: Fault) -> Result<(), Fail> {
-        match read_step(line) {
-            Ok(_) => Err(Fail::new("the line is a step")),
-            Err(found) => {
-                assert_eq!(rt; found, fault);
-                Ok(())
-            },
-        }
+        assert_eq!(rt; read_step(line), Err(fault));
+        Ok(())
     }
 
     #[test]
@@ -89,5 +85,18 @@ mod tests {
         is_fault(&rt, b"add 3f800000 33800000", Fault::BadDigit { column: 6 })?;
         is_fault(&rt, b"add 3F800000 338000", Fault::BadDigit { column: 20 })?;
         is_fault(&rt, b"root 40000000 ", Fault::TrailingText { column: 14 })
+    }
+
+    #[test]
+    fn places(rt: HostRuntime) -> Result<(), Fail> {
+        let mut reader = Reader::new(b"from 3F800000 40000000");
+        assert_eq!(rt; reader.skip(b"into "), false);
+        assert_eq!(rt; reader.skip(b"from "), true);
+        assert_eq!(rt; reader.word(), Ok(Word { bits: 0x3f80_0000 }));
+        assert_eq!(rt; reader.end(), Err(Fault::TrailingText { column: 14 }));
+        assert_eq!(rt; reader.operand(), Ok(Word { bits: 0x4000_0000 }));
+        assert_eq!(rt; reader.end(), Ok(()));
+        assert_eq!(rt; reader.operand(), Err(Fault::MissingWord { column: 23 }));
+        Ok(())
     }
 }

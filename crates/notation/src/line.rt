@@ -1,6 +1,6 @@
 // Steps as lines: the operation's name, then a space and eight digits for each operand, then the end.
 ghost use Rattle.std.specs.Prelude.{◌≡◌};
-ghost use Rattle.notation.specs.Lines.{is_root, operands_of, read_step, ReadsBack};
+ghost use Rattle.notation.specs.Lines.{operands_of, read_step, ReadsBack};
 
 use crate::fault::Fault;
 use crate::name::operation_named;
@@ -15,18 +15,12 @@ pub struct Request {
     pub second: Word,
 }
 
-fn is_root(operation: Operation) -> bool
-    ensures { result ≡ is_root operation }
-{
-    operation.code() == Operation::SquareRoot.code()
-}
-
 // The request of an operation whose operands stand from here to the line's end.
 fn operands(mut reader: Reader, operation: Operation) -> Result<Request, Fault>
     ensures { result ≡ operands_of reader.entry.line reader.entry.at operation }
 {
     let first = reader.operand()?;
-    let second = if is_root(operation) {
+    let second = if operation.is_root() {
         Word::ZERO
     } else {
         reader.operand()?

@@ -5,17 +5,6 @@ ghost use Rattle.notation.specs.Names.{name_of, operation_named};
 
 use binary32::Operation;
 
-const ALL: [Operation; 8] = [
-    Operation::Add,
-    Operation::Subtract,
-    Operation::Multiply,
-    Operation::Divide,
-    Operation::SquareRoot,
-    Operation::Equal,
-    Operation::Less,
-    Operation::AtMost,
-];
-
 // The name of an operation, by which it is found again.
 pub fn name_of(operation: Operation) -> &'static str
     ensures name { result.now ≡ name_of operation }
@@ -46,7 +35,8 @@ pub fn operation_named(name: &[u8]) -> Option<Operation>
     ensures value { result ≡ operation_named name.now }
     ensures name { IfSome result (λ o. name_of o ≡ name.now) }
 {
-    ALL.iter()
+    Operation::ALL
+        .iter()
         .copied()
         .find(|operation| is_named(name, *operation))
 }

@@ -12,8 +12,8 @@ pub fn digit(byte: u8) -> Option<u32>
     ensures { result ≡ digit_of byte }
 {
     match byte {
-        b'0'..=b'9' => Some((byte - b'0') as u32),
-        b'A'..=b'F' => Some((byte - b'A') as u32 + 10),
+        b'0'..=b'9' => Some(u32::from(byte - b'0')),
+        b'A'..=b'F' => Some(u32::from(byte - b'A') + 10),
         _ => None,
     }
 }

@@ -1,5 +1,5 @@
 // A place in a line of text, from which the line is read on.
-ghost use Rattle.std.specs.Prelude.{◌≡◌, ◌≤◌, cond, length, OnOk, OnErr};
+ghost use Rattle.std.specs.Prelude.{◌≡◌, ◌+◌, ◌≤◌, cond, length, OnOk, OnErr};
 ghost use Rattle.notation.specs.Lines.{name_end};
 ghost use Rattle.notation.specs.Places.{start_of, past, rest_of, name_here, stands_here, word_here, operand_here, end_here};
 
@@ -68,15 +68,22 @@ impl<'a> Reader<'a> {
         stands
     }
 
+    // The column of the byte that stands here, counted from 1.
+    fn column(&self) -> usize
+        ensures { result ≡ self.now.at + 1 }
+    {
+        self.at + 1
+    }
+
     // The word that stands here.
     pub fn word(&mut self) -> Result<Word, Fault>
         ensures value { result ≡ word_here self.old }
         ensures after { OnOk result (self.new ≡ past 8 self.old) }
         ensures unmoved { OnErr result (self.new ≡ self.old) }
     {
-        let at = self.at;
-        let word = read_word(&self.line[at..]).map_err(|count| Fault::BadDigit {
-            column: at + count + 1,
+        let start = self.column();
+        let word = read_word(&self.line[self.at..]).map_err(|count| Fault::BadDigit {
+            column: start + count,
         })?;
         self.at += 8;
         Ok(word)
@@ -88,30 +95,28 @@ impl<'a> Reader<'a> {
         ensures after { OnOk result (self.new ≡ past 9 self.old) }
         ensures unmoved { OnErr result (self.new ≡ self.old) }
     {
+        let column = self.column();
         let mut ahead = Reader {
             line: self.line,
             at: self.at,
         };
         if !ahead.skip(b" ") {
-            return Err(Fault::MissingWord {
-                column: self.at + 1,
-            });
+            return Err(Fault::MissingWord { column });
         }
         let word = ahead.word()?;
         *self = ahead;
         Ok(word)
     }
 
-    // The line ends here.
+    // That the line ends here.
     pub fn end(&self) -> Result<(), Fault>
         ensures { result ≡ end_here self.now }
     {
+        let column = self.column();
         if self.at == self.line.len() {
             Ok(())
         } else {
-            Err(Fault::TrailingText {
-                column: self.at + 1,
-            })
+            Err(Fault::TrailingText { column })
         }
     }
 }

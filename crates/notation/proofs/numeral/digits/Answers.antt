@@ -1,5 +1,5 @@
 -- Each call gives the digit at its place.
-use Rattle.std.proofs.Common.{◌≡◌, ℕ, ◌-◌, ◌*◌, ◌/◌, ◌%◌, ◌^◌, refl, ap, ◌∙◌, arith, rules, tests}
+use Rattle.std.proofs.Common.{◌≡◌, ◌-◌, ◌*◌, ◌/◌, ◌%◌, ◌^◌, refl, ap, ◌∙◌, arith, rules, tests}
 use Rattle.notation.specs.Numerals.{code_of, word_of}
 use Rattle.notation.proofs.Made.{made_is}
 use Rattle.notation.proofs.Written.{word_digits}
