@@ -4,7 +4,7 @@ use Rattle.binary32.specs.Steps.{step_of}
 use Rattle.binary32.specs.declared.operation.Operation.{Operation}
 use Rattle.binary32.specs.declared.step.Step.{Step}
 use Rattle.binary32.specs.declared.step.Step.TheVariants as step
-use Rattle.hints.specs.Settings.{setting_of, Fit}
+use Rattle.hints.specs.Settings.{setting_of}
 use Rattle.hints.specs.declared.setting.Case.{Case}
 use Rattle.hints.specs.declared.setting.Case.TheVariants.{Direct, Rounded}
 
@@ -14,8 +14,3 @@ case_from (step.Rounded negative x) = Rounded (setting_of negative x)
 
 abbrev pub case_of : Operation → ℕ → ℕ → Case
 case_of op a b = case_from (step_of op a b)
-
--- a setting keeps its bounds
-abbrev pub FitCase : Case → Type 0
-FitCase (Direct w) = Unit {0}
-FitCase (Rounded σ) = Fit σ

@@ -4,5 +4,6 @@ pub mod Hints
 pub mod Refusals
 pub mod Scheme
 pub mod Settings
+pub mod Views
 pub mod Worked
 pub mod Writer

@@ -3,9 +3,17 @@ use Rattle.std.specs.Prelude.{ℕ, ◌+◌, ◌-◌, ◌*◌, ◌/◌, ◌%◌, 
 use Rattle.binary32.specs.declared.word.NormalForm.{NormalForm}
 use Rattle.binary32.specs.declared.step.Exact.{Exact}
 use Rattle.binary32.specs.declared.step.Exact.TheVariants.{Sum, Difference, Product, Quotient, Root}
-use Rattle.hints.specs.declared.setting.Setting.{Setting}
 use Rattle.hints.specs.declared.setting.Kind.{Kind}
 use Rattle.hints.specs.declared.setting.Kind.TheVariants as kind
+
+-- what contracts see of a setting
+pub record Figures : Type 0 where
+  pub kind : Kind
+  pub negative : Bool
+  pub first : ℕ
+  pub second : ℕ
+  pub shift : ℕ
+  pub scale : ℕ
 
 -- The exponents of normal forms are 172 too high, and a scale is s + 400. So s = e₁ − 26 of a sum has the scale
 -- (e₁ + 172) + 202; s = e₁ + e₂ of a product, s = e₁ − e₂ − 26 of a quotient and s = (e₁ − t) / 2 of a root go likewise.
@@ -18,11 +26,11 @@ alignment_of x y = 26 - min (x.exponent - y.exponent) 26
 abbrev pub radicand_shift : NormalForm → ℕ
 radicand_shift x = 26 + x.exponent % 2
 
-abbrev pub two_of : Kind → Bool → NormalForm → NormalForm → ℕ → ℕ → Setting
+abbrev pub two_of : Kind → Bool → NormalForm → NormalForm → ℕ → ℕ → Figures
 two_of k n x y shift scale =
     record { kind = k; negative = n; first = x.significand; second = y.significand; shift = shift; scale = scale }
 
-abbrev pub setting_of : Bool → Exact → Setting
+abbrev pub setting_of : Bool → Exact → Figures
 setting_of n (Sum x y) = two_of kind.Sum n x y (alignment_of x y) (x.exponent + 202)
 setting_of n (Difference x y) = two_of kind.Difference n x y (alignment_of x y) (x.exponent + 202)
 setting_of n (Product x y) = two_of kind.Product n x y 0 (x.exponent + y.exponent + 56)
@@ -44,7 +52,7 @@ Suits kind.Product first second shift = 2 ^ 23 ≤ second
 Suits kind.Quotient first second shift = 2 ^ 23 ≤ second
 Suits kind.Root first second shift = (26 ≤ shift) × (shift ≤ 27)
 
-pub record Fit (σ : Setting) : Type 0 where
+pub record Fit (σ : Figures) : Type 0 where
   pub low : 2 ^ 23 ≤ σ.first
   pub high : σ.first < 2 ^ 24
   pub second_high : σ.second < 2 ^ 24

@@ -2,10 +2,11 @@
 ghost use Rattle.std.specs.Prelude.{◌≡◌, ◌≤◌};
 ghost use Rattle.binary32.specs.Normal.{Proper};
 ghost use Rattle.binary32.specs.Steps.{step_of};
-ghost use Rattle.hints.specs.Cases.{case_of, FitCase};
-ghost use Rattle.hints.specs.Settings.{setting_of, two_of, alignment_of, radicand_shift};
+ghost use Rattle.hints.specs.Cases.{case_of};
+ghost use Rattle.hints.specs.Settings.{setting_of, alignment_of, radicand_shift};
 
 use binary32::{Exact, NormalForm, Operation, Step, Word};
+use std::marker::Model;
 
 #[derive(Clone, Copy, PartialEq, Eq, Debug)]
 pub enum Kind {
@@ -28,6 +29,20 @@ pub struct Setting {
     pub second: u64,
     pub shift: u32,
     pub scale: u32,
+}
+
+impl Model for Setting {
+    ghost use Rattle.hints.specs.Settings.{Figures};
+
+    ghost Value = { Figures };
+
+    ghost use Rattle.hints.specs.Views.{figures_of, inside_of, IsFit};
+
+    ghost view = { figures_of };
+
+    ghost inverse = { inside_of };
+
+    ghost invariant = { IsFit };
 }
 
 // How far below the larger operand the smaller one of a sum may count as standing. One that stands further down is less than a
@@ -71,73 +86,58 @@ fn sum_kind(exact: Exact) -> Kind
 }
 
 impl Setting {
-    // The setting of a step with two operands.
-    fn two(
-        kind: Kind,
-        negative: bool,
-        x: NormalForm,
-        y: NormalForm,
-        shift: u32,
-        scale: u32,
-    ) -> Setting
-        ensures { result ≡ two_of kind negative x y shift scale }
-    {
-        Setting {
-            kind,
-            negative,
-            first: x.significand as u64,
-            second: y.significand as u64,
-            shift,
-            scale,
-        }
-    }
-
     // The setting of an exact result.
     pub(crate) fn of(negative: bool, exact: Exact) -> Setting
         requires { Proper exact }
         ensures { result ≡ setting_of negative exact }
     {
         let kind = sum_kind(exact);
-        match exact {
-            Exact::Sum(x, y) | Exact::Difference(x, y) => Setting::two(
-                kind,
-                negative,
-                x,
-                y,
-                alignment(x, y),
-                x.exponent + SUM_BIAS,
-            ),
-            Exact::Product(x, y) => {
-                Setting::two(
-                    Kind::Product,
-                    negative,
+        let (kind, x, second, shift, scale) = match exact {
+            Exact::Sum(x, y) | Exact::Difference(x, y) => {
+                (
+                    kind,
                     x,
-                    y,
+                    y.significand,
+                    alignment(x, y),
+                    x.exponent + SUM_BIAS,
+                )
+            }
+            Exact::Product(x, y) => {
+                (
+                    Kind::Product,
+                    x,
+                    y.significand,
                     0,
                     x.exponent + y.exponent + PRODUCT_BIAS,
                 )
             }
             Exact::Quotient(x, y) => {
-                Setting::two(
+                (
                     Kind::Quotient,
-                    negative,
                     x,
-                    y,
+                    y.significand,
                     0,
                     x.exponent + QUOTIENT_BIAS - y.exponent,
                 )
             }
             Exact::Root(x) => {
                 let shift = radicand_shift(x);
-                Setting {
-                    kind: Kind::Root,
-                    negative,
-                    first: x.significand as u64,
-                    second: 0,
+                (
+                    Kind::Root,
+                    x,
+                    0,
                     shift,
-                    scale: (x.exponent + ROOT_BIAS - shift) / 2,
-                }
+                    (x.exponent + ROOT_BIAS - shift) / 2,
+                )
             }
+        };
+        Setting {
+            kind,
+            negative,
+            first: x.significand as u64,
+            second: second as u64,
+            shift,
+            scale,
         }
     }
 }
@@ -152,8 +152,7 @@ pub enum Case {
 // The case of a step that is known.
 fn case_from(operation: Operation, a: Word, b: Word, step: Step) -> Case
     requires { step_of operation a.bits b.bits ≡ step }
-    ensures value { result ≡ case_of operation a.bits b.bits }
-    ensures fits { FitCase result }
+    ensures { result ≡ case_of operation a.bits b.bits }
 {
     match step {
         Step::Direct(word) => Case::Direct(word),
@@ -164,8 +163,7 @@ fn case_from(operation: Operation, a: Word, b: Word, step: Step) -> Case
 impl Case {
     // The case of an operation on two words.
     pub fn of(operation: Operation, a: Word, b: Word) -> Case
-        ensures value { result ≡ case_of operation a.bits b.bits }
-        ensures fits { FitCase result }
+        ensures { result ≡ case_of operation a.bits b.bits }
     {
         case_from(operation, a, b, operation.apply(a, b))
     }

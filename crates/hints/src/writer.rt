@@ -1,9 +1,8 @@
 // The writer: a step's word with the hints that back it.
 ghost use Rattle.std.specs.Prelude.{◌≡◌, ◌+◌, ◌-◌, ◌*◌, ◌^◌, ◌<◌, ◌≤◌, cond};
 ghost use Rattle.binary32.specs.Operations.{operation_of};
-ghost use Rattle.hints.specs.Cases.{case_of, FitCase};
+ghost use Rattle.hints.specs.Cases.{case_of};
 ghost use Rattle.hints.specs.Hints.{listed};
-ghost use Rattle.hints.specs.Settings.{Fit};
 ghost use Rattle.hints.specs.Scheme.{principal_of};
 ghost use Rattle.hints.specs.Writer.{from_principal, rounded_with, written_step, written, Right, RightReply};
 ghost use Rattle.hints.specs.Worked.{Worked};
@@ -76,9 +75,7 @@ impl From<Hints> for [u64; 6] {
 
 // The main of a sum, or else of a difference. The two are one way through the code, since which it is cannot be foreseen.
 fn sum_main(is_sum: bool, setting: Setting) -> u64
-    requires first { setting.first < 2 ^ 24 }
-    requires second { setting.second < 2 ^ 24 }
-    requires shift { setting.shift ≤ 26 }
+    requires { setting.shift ≤ 26 }
     ensures { result ≡ cond is_sum (setting.first * 2 ^ 26 + setting.second * 2 ^ setting.shift) (setting.first * 2 ^ 26 - setting.second * 2 ^ setting.shift) }
 {
     if is_sum {
@@ -90,7 +87,6 @@ fn sum_main(is_sum: bool, setting: Setting) -> u64
 
 // The hints main and rest.
 fn principal(setting: Setting) -> (u64, u64)
-    requires { Fit setting }
     ensures { result ≡ principal_of setting }
 {
     let is_sum = setting.kind == Kind::Sum;
@@ -129,7 +125,6 @@ fn filled_from(negative: bool, scale: u32, main: u64, rest: u64) -> Written
 }
 
 fn rounded(setting: Setting) -> Written
-    requires { Fit setting }
     ensures { result ≡ rounded_with setting }
 {
     let (main, rest) = principal(setting);
@@ -138,8 +133,7 @@ fn rounded(setting: Setting) -> Written
 
 // The word and the hints of a step whose case is known.
 fn written_for(operation: Operation, a: Word, b: Word, case: Case) -> Written
-    requires value { case ≡ case_of operation a.bits b.bits }
-    requires fit { FitCase case }
+    requires { case ≡ case_of operation a.bits b.bits }
     ensures value { result ≡ written_step operation a.bits b.bits }
     ensures right { Right operation a.bits b.bits result }
     ensures rounding { Rounding }

@@ -2,7 +2,6 @@ use Rattle.std.proofs.Common.{sym, ap, ◌∙◌}
 use Rattle.binary32.proofs.Steps.{step_proper}
 use Rattle.hints.specs.Cases.{case_from}
 use Rattle.hints.specs.declared.setting.Case.TheVariants.{Rounded}
-use Rattle.hints.proofs.Settings.{setting_fits}
 use Rattle.hints.proofs.setting.case_from.Goals as goal
 
 -- the exact result of a rounded step is proper
@@ -12,10 +11,4 @@ of-requires c =
     rw (c.requires ∙ c.in-Rounded.is) at proper
 
 pub returns-in-Rounded : goal.returns-in-Rounded
-returns-in-Rounded c =
-    let proper = step_proper c.args.operation c.args.a.bits c.args.b.bits in
-    let is = c.requires ∙ c.in-Rounded.is in
-    record {
-      value = ap Rounded c.of.ensures ∙ ap case_from (sym is);
-      fits = rw c.of.ensures (setting_fits c.in-Rounded.negative c.in-Rounded.exact (rw is at proper));
-    }
+returns-in-Rounded c = ap Rounded c.of.ensures ∙ ap case_from (sym (c.requires ∙ c.in-Rounded.is))
