@@ -1,6 +1,5 @@
 // A claim, examined check by check.
 ghost use Rattle.std.specs.Prelude.{◌≡◌};
-ghost use Rattle.hints.specs.Settings.{Fit};
 ghost use Rattle.checks.specs.Examined.{word_checked, examined_direct, examined_rounded, examined, Sound};
 
 use crate::equation::{first_equation, holds, second_equation};
@@ -25,7 +24,6 @@ fn examine_direct(word: Word, claimed: Written) -> Result<(), Flaw>
 }
 
 fn examine_rounded<S: System>(system: &S, setting: Setting, claimed: Written) -> Result<(), Flaw>
-    requires { Fit setting }
     ensures { result ≡ examined_rounded setting claimed }
 {
     let Written { word, hints } = claimed;

@@ -1,6 +1,5 @@
 // The two equations of a rounded step.
 ghost use Rattle.std.specs.Prelude.{◌≡◌, ◌≤◌, if◌then◌else◌};
-ghost use Rattle.hints.specs.Settings.{Fit};
 ghost use Rattle.systems.specs.Equations.{balanced};
 ghost use Rattle.checks.specs.Equations.{first_equation, second_equation, Narrow};
 
@@ -19,7 +18,6 @@ fn either(first: bool, x: u64, y: u64) -> u64
 
 // The first equation ties main and rest to the significands of the operands.
 pub(crate) fn first_equation(setting: Setting, hints: Hints) -> Equation
-    requires { Fit setting }
     ensures { result ≡ first_equation setting.kind setting.first setting.second setting.shift hints.main hints.rest }
 {
     let Setting {

@@ -1,3 +1,5 @@
+use Rattle.std.proofs.Common.{subst}
+use Rattle.hints.specs.Settings.{Fit}
 use Rattle.checks.proofs.Narrow.{first_narrow, second_narrow}
 use Rattle.checks.proofs.Passed.{front_passed, back_passed}
 use Rattle.checks.proofs.claim.examine_rounded.Goals as goal
@@ -7,10 +9,10 @@ pub holds-requires : goal.holds-requires
 holds-requires g c =
     let σ = c.args.setting in
     let h = c.args.claimed.hints in
+    let fit : Fit σ = subst Fit c.setting.view_is c.setting.invariant in
     let front = front_passed σ.kind σ.second h c.in_ok-check_front.ensures in
     rw c.first_equation.ensures
-    (first_narrow σ.kind σ.first σ.second σ.shift h.main h.rest
-    c.requires.high c.requires.second_high c.requires.suits front.main_fits front.rest_width)
+    (first_narrow σ.kind σ.first σ.second σ.shift h.main h.rest fit.high fit.second_high fit.suits front.main_fits front.rest_width)
 
 pub holds-requires-2 : goal.holds-requires-2
 holds-requires-2 g c =
