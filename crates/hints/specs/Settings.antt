@@ -30,6 +30,13 @@ abbrev pub two_of : Kind → Bool → NormalForm → NormalForm → ℕ → ℕ 
 two_of k n x y shift scale =
     record { kind = k; negative = n; first = x.significand; second = y.significand; shift = shift; scale = scale }
 
+abbrev pub kind_of : Exact → Kind
+kind_of (Sum x y) = kind.Sum
+kind_of (Difference x y) = kind.Difference
+kind_of (Product x y) = kind.Product
+kind_of (Quotient x y) = kind.Quotient
+kind_of (Root x) = kind.Root
+
 abbrev pub setting_of : Bool → Exact → Figures
 setting_of n (Sum x y) = two_of kind.Sum n x y (alignment_of x y) (x.exponent + 202)
 setting_of n (Difference x y) = two_of kind.Difference n x y (alignment_of x y) (x.exponent + 202)

@@ -3,7 +3,7 @@ ghost use Rattle.std.specs.Prelude.{◌≡◌, ◌≤◌};
 ghost use Rattle.binary32.specs.Normal.{Proper};
 ghost use Rattle.binary32.specs.Steps.{step_of};
 ghost use Rattle.hints.specs.Cases.{case_of};
-ghost use Rattle.hints.specs.Settings.{setting_of, alignment_of, radicand_shift};
+ghost use Rattle.hints.specs.Settings.{kind_of, setting_of, alignment_of, radicand_shift};
 
 use binary32::{Exact, NormalForm, Operation, Step, Word};
 use std::marker::Model;
@@ -15,6 +15,20 @@ pub enum Kind {
     Product,
     Quotient,
     Root,
+}
+
+impl Kind {
+    fn of(exact: Exact) -> Kind
+        ensures { result ≡ kind_of exact }
+    {
+        match exact {
+            Exact::Sum(_, _) => Kind::Sum,
+            Exact::Difference(_, _) => Kind::Difference,
+            Exact::Product(_, _) => Kind::Product,
+            Exact::Quotient(_, _) => Kind::Quotient,
+            Exact::Root(_) => Kind::Root,
+        }
+    }
 }
 
 // `first` and `second` are the significands of the operands, in a sum or a difference the larger
@@ -31,6 +45,7 @@ pub struct Setting {
     pub scale: u32,
 }
 
+// Contracts see a setting as its figures, which keep the bounds of its kind of step.
 impl Model for Setting {
     ghost use Rattle.hints.specs.Settings.{Figures};
 
@@ -75,60 +90,22 @@ fn radicand_shift(x: NormalForm) -> u32
     26 + x.exponent % 2
 }
 
-// Sum, or else difference.
-fn sum_kind(exact: Exact) -> Kind
-    ensures { result ≡ elim exact [ Exact.Sum x y ↦ Kind.Sum | Exact.Difference x y ↦ Kind.Difference | Exact.Product x y ↦ Kind.Difference | Exact.Quotient x y ↦ Kind.Difference | Exact.Root x ↦ Kind.Difference ] }
-{
-    match exact {
-        Exact::Sum(_, _) => Kind::Sum,
-        _ => Kind::Difference,
-    }
-}
-
 impl Setting {
     // The setting of an exact result.
     pub(crate) fn of(negative: bool, exact: Exact) -> Setting
         requires { Proper exact }
         ensures { result ≡ setting_of negative exact }
     {
-        let kind = sum_kind(exact);
-        let (kind, x, second, shift, scale) = match exact {
+        let kind = Kind::of(exact);
+        let (x, second, shift, scale) = match exact {
             Exact::Sum(x, y) | Exact::Difference(x, y) => {
-                (
-                    kind,
-                    x,
-                    y.significand,
-                    alignment(x, y),
-                    x.exponent + SUM_BIAS,
-                )
+                (x, y.significand, alignment(x, y), x.exponent + SUM_BIAS)
             }
-            Exact::Product(x, y) => {
-                (
-                    Kind::Product,
-                    x,
-                    y.significand,
-                    0,
-                    x.exponent + y.exponent + PRODUCT_BIAS,
-                )
-            }
-            Exact::Quotient(x, y) => {
-                (
-                    Kind::Quotient,
-                    x,
-                    y.significand,
-                    0,
-                    x.exponent + QUOTIENT_BIAS - y.exponent,
-                )
-            }
+            Exact::Product(x, y) => (x, y.significand, 0, x.exponent + y.exponent + PRODUCT_BIAS),
+            Exact::Quotient(x, y) => (x, y.significand, 0, x.exponent + QUOTIENT_BIAS - y.exponent),
             Exact::Root(x) => {
                 let shift = radicand_shift(x);
-                (
-                    Kind::Root,
-                    x,
-                    0,
-                    shift,
-                    (x.exponent + ROOT_BIAS - shift) / 2,
-                )
+                (x, 0, shift, (x.exponent + ROOT_BIAS - shift) / 2)
             }
         };
         Setting {
@@ -149,22 +126,14 @@ pub enum Case {
     Rounded(Setting),
 }
 
-// The case of a step that is known.
-fn case_from(operation: Operation, a: Word, b: Word, step: Step) -> Case
-    requires { step_of operation a.bits b.bits ≡ step }
-    ensures { result ≡ case_of operation a.bits b.bits }
-{
-    match step {
-        Step::Direct(word) => Case::Direct(word),
-        Step::Rounded { negative, exact } => Case::Rounded(Setting::of(negative, exact)),
-    }
-}
-
 impl Case {
     // The case of an operation on two words.
     pub fn of(operation: Operation, a: Word, b: Word) -> Case
         ensures { result ≡ case_of operation a.bits b.bits }
     {
-        case_from(operation, a, b, operation.apply(a, b))
+        match operation.apply(a, b) {
+            Step::Direct(word) => Case::Direct(word),
+            Step::Rounded { negative, exact } => Case::Rounded(Setting::of(negative, exact)),
+        }
     }
 }
