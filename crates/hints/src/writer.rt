@@ -1,10 +1,9 @@
 // The writer: a step's word with the hints that back it.
 ghost use Rattle.std.specs.Prelude.{◌≡◌, ◌+◌, ◌-◌, ◌*◌, ◌^◌, ◌<◌, ◌≤◌, cond};
 ghost use Rattle.binary32.specs.Operations.{operation_of};
-ghost use Rattle.hints.specs.Cases.{case_of};
 ghost use Rattle.hints.specs.Hints.{listed};
 ghost use Rattle.hints.specs.Scheme.{principal_of};
-ghost use Rattle.hints.specs.Writer.{from_principal, rounded_with, written_step, written, Right, RightReply};
+ghost use Rattle.hints.specs.Writer.{rounded_with, written_step, written, Right, RightReply};
 ghost use Rattle.hints.specs.Worked.{Worked};
 ghost use Rattle.rounding.specs.Laws.{Rounding};
 
@@ -101,12 +100,16 @@ fn principal(setting: Setting) -> (u64, u64)
     }
 }
 
-// The word and the hints, from main and rest.
-fn filled_from(negative: bool, scale: u32, main: u64, rest: u64) -> Written
-    requires some { 0 < main }
-    requires fits { main < 2 ^ 51 }
-    ensures { result ≡ from_principal negative scale main rest }
+// The word and the hints of a rounded step.
+fn rounded(setting: Setting) -> Written
+    ensures { result ≡ rounded_with setting }
 {
+    let Setting {
+        negative,
+        scale,
+        ..
+    } = setting;
+    let (main, rest) = principal(setting);
     let (lift, number) = lifted(main);
     let place = Cut::of(scale, lift);
     let (keep, drop) = cut(number, place.place());
@@ -124,30 +127,6 @@ fn filled_from(negative: bool, scale: u32, main: u64, rest: u64) -> Written
     }
 }
 
-fn rounded(setting: Setting) -> Written
-    ensures { result ≡ rounded_with setting }
-{
-    let (main, rest) = principal(setting);
-    filled_from(setting.negative, setting.scale, main, rest)
-}
-
-// The word and the hints of a step whose case is known.
-fn written_for(operation: Operation, a: Word, b: Word, case: Case) -> Written
-    requires { case ≡ case_of operation a.bits b.bits }
-    ensures value { result ≡ written_step operation a.bits b.bits }
-    ensures right { Right operation a.bits b.bits result }
-    ensures rounding { Rounding }
-    ensures worked { Worked }
-{
-    match case {
-        Case::Direct(word) => Written {
-            word,
-            hints: Hints::NONE,
-        },
-        Case::Rounded(setting) => rounded(setting),
-    }
-}
-
 // The word of an operation on two words, with its hints: six zeros where the step is direct. It is right:
 // its hints back it, nothing else backs the step, and the word is the correctly rounded one. The last two
 // clauses speak of the definitions: the laws of the nearest word, and steps worked out by hand.
@@ -157,7 +136,13 @@ pub fn write_step(operation: Operation, a: Word, b: Word) -> Written
     ensures rounding { Rounding }
     ensures worked { Worked }
 {
-    written_for(operation, a, b, Case::of(operation, a, b))
+    match Case::of(operation, a, b) {
+        Case::Direct(word) => Written {
+            word,
+            hints: Hints::NONE,
+        },
+        Case::Rounded(setting) => rounded(setting),
+    }
 }
 
 // The same by the operation's code, which may be none.

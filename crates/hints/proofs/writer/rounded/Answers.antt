@@ -4,8 +4,8 @@ use Rattle.hints.proofs.Principals.{main_within, width_at_most}
 use Rattle.hints.proofs.writer.rounded.Goals as goal
 
 -- main is some number of at most 51 bits
-pub filled_from-requires : goal.filled_from-requires
-filled_from-requires c =
+pub lifted-lift-requires : goal.lifted-lift-requires
+lifted-lift-requires c =
     let σ = c.setting.inside in
     let fit = c.setting.invariant in
     let within = main_within σ.kind σ.first σ.second σ.shift fit.low fit.high fit.second_high fit.suits in
