@@ -51,11 +51,7 @@ impl Cut {
     {
         let twice = drop.saturating_mul(2);
         let whole = 1 << self.k;
-        if twice > whole || (twice == whole && (rest != 0 || keep % 2 == 1)) {
-            1
-        } else {
-            0
-        }
+        u64::from(twice > whole || (twice == whole && (rest != 0 || keep % 2 == 1)))
     }
 
     // The word that keep and up make. It stops at infinity.
