@@ -3,7 +3,7 @@ use Rattle.std.specs.Prelude.{ℕ, cond, Some, None, Ok, Err, Option, Result, �
 use Rattle.binary32.specs.Operations.{is_root, operation_of}
 use Rattle.binary32.specs.declared.operation.Operation.{Operation}
 use Rattle.binary32.specs.declared.word.Word.{Word}
-use Rattle.checks.specs.Examined.{Outcome, examined}
+use Rattle.checks.specs.Examined.{Outcome, claim_of, examined}
 use Rattle.hints.specs.declared.writer.Hints.{Hints}
 use Rattle.sheet.specs.Cells.{Checked, word_in, word_or_zero, settled_state}
 use Rattle.sheet.specs.Operands.{claim_checked}
@@ -90,7 +90,7 @@ second_word s operation n = cond (is_root operation) (record { bits = 0 }) (word
 -- a claim is examined with the words of the cells that it names
 unfoldable pub found : Standing → Operation → ℕ → ℕ → Word → Hints → Outcome
 found s operation first second word hints =
-    examined operation (word_at s first).bits (second_word s operation second).bits word hints
+    examined operation (word_at s first).bits (second_word s operation second).bits (claim_of word hints)
 
 abbrev pub answer_of : ℕ → Outcome → Result ℕ Refusal
 answer_of cell (Ok _) = Ok cell

@@ -12,7 +12,7 @@ use crate::table::Table;
 use crate::ticket::{Stub, Ticket};
 use binary32::{Operation, Word};
 use checks::{Flaw, examine};
-use hints::Hints;
+use hints::{Hints, Written};
 use std::marker::PhantomData;
 use systems::System;
 
@@ -89,14 +89,13 @@ impl<S: System> OpenSheet<S> {
         operation: Operation,
         first: u64,
         second: u64,
-        word: Word,
-        hints: Hints,
+        claimed: Written,
     ) -> Result<(), Flaw>
-        ensures { result ≡ found_in (cells_of (model_of self.now)) operation first second word hints }
+        ensures { result ≡ found_in (cells_of (model_of self.now)) operation first second claimed.word claimed.hints }
     {
         let a = first_word(&self.table, first);
         let b = second_word(&self.table, operation, second);
-        examine(&self.system, operation, a, b, word, hints)
+        examine(&self.system, operation, a, b, claimed)
     }
 
     fn settle_stub(&mut self, stub: Stub, hints: Hints) -> Result<u64, Refusal>
@@ -110,7 +109,8 @@ impl<S: System> OpenSheet<S> {
                 second,
                 word,
             } => {
-                let found = self.examine_claim(operation, first, second, word, hints);
+                let claimed = Written { word, hints };
+                let found = self.examine_claim(operation, first, second, claimed);
                 self.table.settle(stub.cell, word, found);
                 answer(stub.cell, found)
             }

@@ -98,7 +98,7 @@ impl Refusal {
                 flaw: Flaw::Width(hint),
             } => Values {
                 first: cell,
-                second: hint,
+                second: u32::from(hint),
             },
             Refusal::Flawed { cell, .. } => Values {
                 first: cell,

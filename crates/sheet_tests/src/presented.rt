@@ -2,7 +2,7 @@
 use crate::figures::{TWICE_ONE, TWO, settle_twice_one, started, tells};
 use binary32::Word;
 use checks::Flaw;
-use hints::{Hints, Layer};
+use hints::{Hint, Hints, Layer};
 use sheet::{OpenSheet, Refusal, Stub, Ticket};
 use std::process::Abort;
 use std::test::Fail;
@@ -38,7 +38,7 @@ fn spent_by_a_refusal<S: System>(rt: &impl Abort, system: S) -> Result<(), Fail>
         reply,
         Err(Refusal::Flawed {
             cell: 2,
-            flaw: Flaw::Width(3)
+            flaw: Flaw::Width(Hint::Lift)
         })
     );
     is_bad(rt, &mut sheet, 7, 2)
