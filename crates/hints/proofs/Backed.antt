@@ -3,7 +3,7 @@ use Rattle.std.proofs.Common.{ℕ, ◌+◌, ◌-◌, ◌*◌, ◌/◌, ◌%◌, 
 use lib.Pow.{split}
 use Rattle.std.proofs.lemmas.Nat.{div-add-mod', mod_below}
 use Rattle.binary32.proofs.Zeros.{lifted_below}
-use Rattle.hints.specs.Scheme.{floor_root, principal_by, principal_of, main_width, lift_of, cut_of, rounds_up}
+use Rattle.hints.specs.Scheme.{floor_root, principal_by, principal_of, lift_of, cut_of, rounds_up}
 use Rattle.hints.specs.Settings.{Suits, Fit}
 use Rattle.hints.specs.Backs.{rest_limit, FirstEquation, Backs}
 use Rattle.hints.specs.Writer.{rounded_with}
@@ -12,7 +12,7 @@ use Rattle.hints.specs.declared.setting.Kind.{Kind}
 use Rattle.hints.specs.declared.setting.Kind.TheVariants.{Sum, Difference, Product, Quotient, Root}
 use Rattle.hints.proofs.Roots.{digits_root}
 use Rattle.hints.proofs.Lifts.{lift_at_most, lift_low, lift_high}
-use Rattle.hints.proofs.Principals.{main_within, width_at_most, radicand_high}
+use Rattle.hints.proofs.Principals.{main_within, main_fits, radicand_high}
 
 -- main and rest solve the first equation, and rest is within its width
 pub record Solves (k : Kind) (first second shift main rest : ℕ) : Type 0 where
@@ -45,7 +45,7 @@ rounded_backs σ fit =
     let main = (principal_of σ).0 in
     let solved = principal_solves k σ.first σ.second σ.shift fit.low fit.high fit.second_high fit.suits in
     let within = main_within k σ.first σ.second σ.shift fit.low fit.high fit.second_high fit.suits in
-    let small : main < 2 ^ 51 = omega (arith, within.width, pow_mono {i = main_width k} {j = 51} (width_at_most k)) in
+    let small = (main_fits σ fit).fits in
     let lift = lift_of main in
     let cut = cut_of σ.scale lift in
     record {

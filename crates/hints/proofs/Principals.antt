@@ -1,18 +1,17 @@
 -- Main is some number within its width, whatever the kind of step.
 use Rattle.std.proofs.Common.{ℕ, ◌+◌, ◌*◌, ◌/◌, ◌^◌, ◌<◌, ◌≤◌, inl, inr, mul-le-mul, mul-le-mul_left, arith, pow_mono}
 use Rattle.std.proofs.lemmas.Bool.{cases_lt}
-use Rattle.std.proofs.lemmas.Nat.{div_below, le-div, mul-lt}
-use Rattle.hints.specs.Scheme.{principal_by, main_width}
-use Rattle.hints.specs.Settings.{Suits}
+use Rattle.std.proofs.lemmas.Nat.{div_below, le-div, mul-lt, shl_below}
+use Rattle.hints.specs.Scheme.{principal_by, principal_of, main_width}
+use Rattle.hints.specs.Settings.{Suits, Fit}
+use Rattle.hints.specs.declared.setting.Setting.{Setting}
 use Rattle.hints.specs.declared.setting.Kind.{Kind}
 use Rattle.hints.specs.declared.setting.Kind.TheVariants.{Sum, Difference, Product, Quotient, Root}
 use Rattle.hints.proofs.Roots.{IsRoot, digits_root}
 
--- a second significand moved up by at most 26 bits
-moved_below : (second shift : ℕ) → second < 2 ^ 24 → shift ≤ 26 → second * 2 ^ shift < 2 ^ 50
-moved_below second shift high near =
-    let wider : second * 2 ^ shift ≤ second * 2 ^ 26 = mul-le-mul_left second (pow_mono {i = shift} {j = 26} near) in
-    omega arith
+-- a significand moved up by at most `most` bits
+pub moved_below : (m by most : ℕ) → m < 2 ^ 24 → by ≤ most → m * 2 ^ by < 2 ^ (24 + most)
+moved_below m by most high near = omega (arith, shl_below m 24 by high, pow_mono {i = 24 + by} {j = 24 + most} (omega arith))
 
 pub record Within (k : Kind) (main : ℕ) : Type 0 where
   pub some : 0 < main
@@ -32,9 +31,7 @@ module _ (first second shift : ℕ) (low : 2 ^ 23 ≤ first) (high : first < 2 ^
       omega arith
 
   pub radicand_high : shift ≤ 27 → first * 2 ^ shift < 2 ^ 51
-  radicand_high near =
-      let wider : first * 2 ^ shift ≤ first * 2 ^ 27 = mul-le-mul_left first (pow_mono {i = shift} {j = 27} near) in
-      omega arith
+  radicand_high near = moved_below first shift 27 high near
 
 -- the root of a number from 2^49 to 2^51 has 25 or 26 bits
 pub root_low : (n r : ℕ) → 2 ^ 48 ≤ n → IsRoot n r → 2 ^ 24 ≤ r
@@ -54,7 +51,7 @@ root_high n r small is =
 pub main_within : (k : Kind) (first second shift : ℕ) → 2 ^ 23 ≤ first → first < 2 ^ 24 → second < 2 ^ 24 →
     Suits k first second shift → Within k (principal_by k first second shift).0
 main_within Sum first second shift low high second_high near =
-    record { some = omega arith; width = omega (arith, moved_below second shift second_high near) }
+    record { some = omega arith; width = omega (arith, moved_below second shift 26 second_high near) }
 main_within Difference first second shift low high second_high suits =
     record { some = omega (arith, suits.1); width = omega arith }
 main_within Product first second shift low high second_high some =
@@ -75,9 +72,19 @@ main_within Root first second shift low high second_high suits =
     record { some = omega (arith, root_low n _ (omega arith) is); width = root_high n _ (omega arith) is }
 
 -- no width is above 51
-pub width_at_most : (k : Kind) → main_width k ≤ 51
+width_at_most : (k : Kind) → main_width k ≤ 51
 width_at_most Sum = omega arith
 width_at_most Difference = omega arith
 width_at_most Product = omega arith
 width_at_most Quotient = omega arith
 width_at_most Root = omega arith
+
+-- the main of a setting
+pub record Main (main : ℕ) : Type 0 where
+  pub some : 0 < main
+  pub fits : main < 2 ^ 51
+
+pub main_fits : (σ : Setting) → Fit σ → Main (principal_of σ).0
+main_fits σ fit =
+    let within = main_within σ.kind σ.first σ.second σ.shift fit.low fit.high fit.second_high fit.suits in
+    record { some = within.some; fits = omega (arith, within.width, pow_mono {i = main_width σ.kind} {j = 51} (width_at_most σ.kind)) }

@@ -1,8 +1,8 @@
 -- The whole square root: its digits give it, and two numbers cannot both be it.
-use Rattle.std.proofs.Common.{◌≡◌, ℕ, zero, suc, ◌+◌, ◌-◌, ◌*◌, ◌/◌, ◌^◌, ◌<◌, ◌≤◌, inl, inr, mul-le-mul, arith}
+use Rattle.std.proofs.Common.{◌≡◌, ℕ, zero, suc, ◌+◌, ◌-◌, ◌*◌, ◌/◌, ◌^◌, ◌<◌, ◌≤◌, inl, inr, ap, mul-le-mul, arith}
 use native.Mathlib.Nat.{pow-succ'}
 use Rattle.std.proofs.lemmas.Bool.{cases_lt, cases_order, le-leb, lt-leb}
-use Rattle.hints.specs.Scheme.{floor_root}
+use Rattle.hints.specs.Scheme.{floor_root, root_with_rest}
 
 -- r is the whole square root of n
 pub record IsRoot (n r : ℕ) : Type 0 where
@@ -29,22 +29,7 @@ digits_root (suc b) n fits =
       | inr more ↦ rw (le-leb ((2 * q + 1) * (2 * q + 1)) n more) (record { below = more; above = omega (arith, found.above) })
     ]
 
--- the loop's facts: rest completes the square of the root so far, whose square with 2p more at the root is too large
-pub record Partial (n R rest p : ℕ) : Type 0 where
-  pub square : R * R + rest ≡ n
-  pub short : rest < (2 * R + p) * p
-  pub fits : R + p ≤ 2 ^ 26
-
-pub bit_taken : (n R rest p : ℕ) → Partial n R rest (2 * p) → (2 * R + p) * p ≤ rest → Partial n (R + p) (rest - (2 * R + p) * p) p
-bit_taken n R rest p before room = record {
-  square = omega (arith, before.square);
-  short = omega (arith, before.short);
-  fits = omega (arith, before.fits);
-}
-
-pub bit_left : (n R rest p : ℕ) → Partial n R rest (2 * p) → rest < (2 * R + p) * p → Partial n R rest p
-bit_left n R rest p before short = record { square = before.square; short = short; fits = omega (arith, before.fits) }
-
--- when every bit is decided the root is whole
-pub all_decided : (n R rest : ℕ) → Partial n R rest 1 → IsRoot n R
-all_decided n R rest done = record { below = omega (arith, done.square); above = omega (arith, done.square, done.short) }
+-- the whole square root with what it leaves over, by what it squares to
+pub root_found : (n r : ℕ) → n < 2 ^ 52 → r * r ≤ n → n < (r + 1) * (r + 1) → (r, n - r * r) ≡ root_with_rest n
+root_found n r fits below above =
+    ap (λ (x : ℕ). (x, n - x * x)) (root_unique n r (floor_root 26 n) (record { below = below; above = above }) (digits_root 26 n fits))

@@ -3,6 +3,7 @@ ghost use Rattle.std.specs.Prelude.{◌≡◌, ◌+◌, ◌-◌, ◌*◌, ◌/�
 ghost use Rattle.hints.specs.Scheme.{lift_of};
 
 // A significand moved up by `by` bits.
+#[tactic(auto, using(crate::proofs::Principals::moved_below, std::proofs::lemmas::Nat::shl_whole))]
 pub(crate) fn moved_up(significand: u64, by: u32) -> u64
     requires fits { significand < 2 ^ 24 }
     requires bound { by ≤ 27 }

@@ -10,23 +10,6 @@ pub(crate) struct Radicand {
 }
 
 impl Radicand {
-    // Bit by bit from the highest: `rest` is always the radicand less the square of the root so far.
-    fn root_by_bits(self) -> (u64, u64)
-        ensures { result ≡ root_with_rest self.value }
-    {
-        let mut root: u64 = 0;
-        let mut rest = self.value;
-        for b in (0..26u32).rev() {
-            let bit = 1 << b;
-            let step = (2 * root + bit) * bit;
-            if step <= rest {
-                rest -= step;
-                root += bit;
-            }
-        }
-        (root, rest)
-    }
-
     // One step of Newton's rule towards the root.
     fn nearer_root(self, guess: u64) -> u64
         requires low { 2 ≤ guess }
@@ -49,6 +32,7 @@ impl Radicand {
     }
 
     // A guess that is the root is known by what it leaves over, so nothing rests on how good guesses are.
+    #[tactic(auto, using(crate::proofs::Roots::root_found))]
     pub(crate) fn root(self) -> (u64, u64)
         ensures { result ≡ root_with_rest self.value }
     {
@@ -59,6 +43,7 @@ impl Radicand {
                 return (guess, rest);
             }
         }
-        self.root_by_bits()
+        let root = self.value.isqrt();
+        (root, self.value - root * root)
     }
 }

@@ -101,6 +101,7 @@ fn principal(setting: Setting) -> (u64, u64)
 }
 
 // The word and the hints of a rounded step.
+#[tactic(auto, using(crate::proofs::Principals::main_fits))]
 fn rounded(setting: Setting) -> Written
     ensures { result ≡ rounded_with setting }
 {
