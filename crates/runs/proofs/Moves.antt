@@ -1,13 +1,13 @@
 -- What one call, answered by the rules, makes of each cell, told by the history alone.
 use Rattle.std.proofs.Common.{◌≡◌, ℕ, ◌≤◌, Bool, true, false, cond, eqb, ◌∷◌, is_ok, Some, Ok, Err, Result, sym, refl, ap, ◌∙◌, subst, arith}
 use Rattle.std.proofs.lemmas.Bool.{cond_both, cond-true, cond-false, eq-eqb, eqb-true, both_ways}
-use Rattle.binary32.specs.Operations.{operation_of}
+use Rattle.binary32.specs.Operations.{is_root, operation_of}
 use Rattle.binary32.specs.declared.operation.Operation.{Operation}
 use Rattle.binary32.specs.declared.word.Word.{Word}
 use Rattle.hints.specs.declared.writer.Hints.{Hints}
 use Rattle.sheet.proofs.Found.{found_sound}
 use Rattle.sheet.specs.Calls.{allowed, answer_of, found, presented, second_word, settle_reply, settle_reply_at, ticket_for, word_at}
-use Rattle.sheet.specs.Operands.{is_root, operand_checked, operands_checked}
+use Rattle.sheet.specs.Operands.{operand_checked, operands_checked}
 use Rattle.sheet.specs.Tables.{has_room}
 use Rattle.sheet.specs.Tickets.{ticket_of}
 use Rattle.sheet.specs.declared.cell.State.TheVariants.{Free, Pending}

@@ -1,47 +1,29 @@
 -- The loops of a replay, and what its answers say.
-use Rattle.std.proofs.Common.{◌≡◌, ℕ, suc, ◌+◌, ◌<◌, true, List, [], ◌∷◌, ◌++◌, map, length, get_or, drop, is_err, Some, None, Ok, Err, vec_items, Option, Result, sym, refl, ap, ◌∙◌, subst, append_assoc, arith}
-use Rattle.std.proofs.lemmas.List.{drop_more, length-map}
+use Rattle.std.proofs.Common.{◌≡◌, ℕ, suc, true, List, [], ◌∷◌, ◌++◌, map, length, is_err, Some, None, Ok, Err, vec_items, Option, Result, sym, refl, ap, ◌∙◌, subst, arith}
+use Rattle.std.proofs.lemmas.List.{length-map}
 use Rattle.std.specs.declared.alloc.AllocError.{AllocError}
 use Rattle.sheet.specs.Calls.{Model, cells_of, close_after, opened}
 use Rattle.runs.proofs.Passes.{honest}
 use Rattle.runs.proofs.Reaches.{binding}
 use Rattle.runs.specs.Histories.{History, on_open, close, on_closed}
 use Rattle.runs.specs.Law.{Law}
-use Rattle.runs.specs.Met.{answers_from, after_all, closed_answers, later_answers}
+use Rattle.runs.specs.Met.{replies, answers_from, after_all, closed_answers, later_answers}
 use Rattle.runs.specs.Replies.{open_reply, closed_reply}
 use Rattle.runs.specs.Rooms.{count_of}
 use Rattle.runs.specs.Runs.{Alike, LawOfRuns, Obeys, history_of, met, met_closed, unnumbered}
 use Rattle.runs.specs.Sheets.{Reached, is_open, is_closed, open_after}
 use Rattle.runs.specs.declared.answer.ClosedAnswer.{ClosedAnswer}
-use Rattle.runs.specs.declared.answer.OpenAnswer.{OpenAnswer}
 use Rattle.runs.specs.declared.call.ClosedCall.{ClosedCall}
 use Rattle.runs.specs.declared.call.ClosedCall.TheVariants as ClosedCalls
 use Rattle.runs.specs.declared.call.OpenCall.{OpenCall}
 use Rattle.runs.specs.declared.run.Answers.{Answers}
 use Rattle.runs.specs.declared.run.Replayed.{Replayed}
 
--- one answer more
-pub pushed : {A : Type 0} (now before rest : List A) (r : A) → now ≡ before ++ r ∷ [] → now ++ rest ≡ before ++ r ∷ rest
-pushed now before rest r is = ap (λ xs. xs ++ rest) is ∙ append_assoc before (r ∷ []) rest
-
-pub answers_more : (m later : Model) (calls : List OpenCall) (i : ℕ) (d : OpenCall) (r : OpenAnswer) → i < length calls →
-    r ≡ open_reply m.serial (cells_of m) (get_or calls i d) → later ≡ open_after m (get_or calls i d) →
-    r ∷ answers_from later (drop (i + 1) calls) ≡ answers_from m (drop i calls)
-answers_more m later calls i d r within is after =
-    ap (λ a. a ∷ answers_from later (drop (i + 1) calls)) is
-    ∙ ap (λ k. open_reply m.serial (cells_of m) (get_or calls i d) ∷ answers_from k (drop (i + 1) calls)) after
-    ∙ ap (answers_from m) (sym (drop_more calls i d within))
-
-pub after_more : (m later : Model) (calls : List OpenCall) (i : ℕ) (d : OpenCall) → i < length calls → later ≡ open_after m (get_or calls i d) →
-    after_all later (drop (i + 1) calls) ≡ after_all m (drop i calls)
-after_more m later calls i d within after =
-    ap (λ k. after_all k (drop (i + 1) calls)) after ∙ ap (after_all m) (sym (drop_more calls i d within))
-
-pub closed_more : (modulus : ℕ) (m : Model) (calls : List ClosedCall) (i : ℕ) (d : ClosedCall) (r : ClosedAnswer) → i < length calls →
-    r ≡ closed_reply modulus m.weight (cells_of m) (get_or calls i d) →
-    r ∷ closed_answers modulus m (drop (i + 1) calls) ≡ closed_answers modulus m (drop i calls)
-closed_more modulus m calls i d r within is =
-    ap (λ a. a ∷ closed_answers modulus m (drop (i + 1) calls)) is ∙ ap (closed_answers modulus m) (sym (drop_more calls i d within))
+-- nothing alters a closed sheet, so that each call on it meets the same
+unaltered : (modulus : ℕ) (m : Model) (calls : List ClosedCall) →
+    replies (λ k c. closed_reply modulus k.weight (cells_of k) c) (λ k _. k) m calls ≡ closed_answers modulus m calls
+unaltered modulus m [] = refl
+unaltered modulus m (c ∷ cs) = ap (λ rest. closed_reply modulus m.weight (cells_of m) c ∷ rest) (unaltered modulus m cs)
 
 -- each call has its answer
 answers_length : (m : Model) (calls : List OpenCall) → length (answers_from m calls) ≡ length calls
@@ -112,14 +94,12 @@ alike modulus other m calls closed r s r_opened r_closed s_opened s_closed = rec
 }
 
 -- answers into an empty list, on a sheet that is known
-pub first_answers : (m k : Model) (calls : List OpenCall) (now before : List OpenAnswer) →
-    now ≡ before ++ answers_from k calls → before ≡ [] → k ≡ m → now ≡ answers_from m calls
-first_answers m k calls now before are none is = are ∙ ap (λ xs. xs ++ answers_from k calls) none ∙ ap (λ j. answers_from j calls) is
-
 pub later_answers_lem : (modulus : ℕ) (m k : Model) (cs : List ClosedCall) (closed : Option (List ClosedCall)) (now before : List ClosedAnswer) →
-    now ≡ before ++ closed_answers modulus k cs → before ≡ [] → k ≡ close_after m → closed ≡ Some cs → now ≡ later_answers modulus m closed
+    now ≡ before ++ replies (λ k c. closed_reply modulus k.weight (cells_of k) c) (λ k _. k) k cs → before ≡ [] → k ≡ close_after m → closed ≡ Some cs →
+    now ≡ later_answers modulus m closed
 later_answers_lem modulus m k cs closed now before are none is calls =
-    are ∙ ap (λ xs. xs ++ closed_answers modulus k cs) none ∙ ap (λ j. closed_answers modulus j cs) is ∙ ap (later_answers modulus m) (sym calls)
+    are ∙ ap (λ xs. xs ++ replies (λ k c. closed_reply modulus k.weight (cells_of k) c) (λ k _. k) k cs) none ∙ unaltered modulus k cs
+    ∙ ap (λ j. closed_answers modulus j cs) is ∙ ap (later_answers modulus m) (sym calls)
 
 -- want of memory comes before the first call
 pub law_refused : (serial weight modulus other : ℕ) (calls : List OpenCall) (closed : Option (List ClosedCall)) (r : Result Replayed AllocError) →

@@ -8,6 +8,8 @@ use Rattle.sheet.specs.Calls.{allowed_for, allowed_if, answer_of}
 use Rattle.sheet.specs.Cells.{Checked, taken_in, accepted_in, before, word_or_zero}
 use Rattle.sheet.specs.Operands.{claim_checked, operand_checked, operands_checked}
 use Rattle.sheet.specs.Tables.{Standing, has_room}
+use Rattle.sheet.specs.declared.refusal.Operand.{Operand}
+use Rattle.sheet.specs.declared.refusal.Operand.TheVariants.{First, Second}
 use Rattle.sheet.specs.declared.refusal.Refusal.TheVariants as refusal
 use Rattle.runs.specs.Histories.{Claim, Status, untaken, given, pending, accepted, struck, accepted_word}
 use Rattle.runs.specs.Replies.{pending_state, state_of}
@@ -28,12 +30,12 @@ word_of (accepted c) w is = cc
 word_of struck w is = absurd (none_not_some w is)
 
 -- a cell that passes both checks of an operand is accepted
-passed_pending : (o : Option Operation) (c : Claim) (operand : ℕ) →
+passed_pending : (o : Option Operation) (c : Claim) (operand : Operand) →
     taken_in (pending_state o c) operand ≡ Ok tt → accepted_in (pending_state o c) operand ≡ Ok tt → ⊥
 passed_pending None c operand taken passed = refused_not_ok tt (refusal.NotTaken operand) taken
 passed_pending (Some op) c operand taken passed = refused_not_ok tt (refusal.NotAccepted operand) passed
 
-pub passed_accepted : (s : Status) (operand : ℕ) → taken_in (state_of s) operand ≡ Ok tt → accepted_in (state_of s) operand ≡ Ok tt →
+pub passed_accepted : (s : Status) (operand : Operand) → taken_in (state_of s) operand ≡ Ok tt → accepted_in (state_of s) operand ≡ Ok tt →
     accepted_word s ≡ Some (word_or_zero (state_of s))
 passed_accepted untaken operand taken passed = absurd (refused_not_ok tt (refusal.NotTaken operand) taken)
 passed_accepted (given w) operand taken passed = refl
@@ -53,21 +55,21 @@ before_second (Err r) y both = absurd (refused_not_ok tt r both)
 -- what the checks of operands leave
 pub one_checked : (s : Status) → operand_checked (state_of s) ≡ Ok tt → accepted_word s ≡ Some (word_or_zero (state_of s))
 one_checked s passed =
-    let t = taken_in (state_of s) 1 in
-    let a = accepted_in (state_of s) 1 in
-    passed_accepted s 1 (before_first t a passed) (before_second t a passed)
+    let t = taken_in (state_of s) First in
+    let a = accepted_in (state_of s) First in
+    passed_accepted s First (before_first t a passed) (before_second t a passed)
 
 pub both_checked : (s r : Status) → operands_checked (state_of s) (state_of r) ≡ Ok tt →
     (accepted_word s ≡ Some (word_or_zero (state_of s))) × (accepted_word r ≡ Some (word_or_zero (state_of r)))
 both_checked s r passed =
-    let t1 = taken_in (state_of s) 1 in
-    let t2 = taken_in (state_of r) 2 in
-    let a1 = accepted_in (state_of s) 1 in
-    let a2 = accepted_in (state_of r) 2 in
+    let t1 = taken_in (state_of s) First in
+    let t2 = taken_in (state_of r) Second in
+    let a1 = accepted_in (state_of s) First in
+    let a2 = accepted_in (state_of r) Second in
     let rest = before_second t1 (before t2 (before a1 a2)) passed in
     let last = before_second t2 (before a1 a2) rest in (
-      passed_accepted s 1 (before_first t1 (before t2 (before a1 a2)) passed) (before_first a1 a2 last),
-      passed_accepted r 2 (before_first t2 (before a1 a2) rest) (before_second a1 a2 last),
+      passed_accepted s First (before_first t1 (before t2 (before a1 a2)) passed) (before_first a1 a2 last),
+      passed_accepted r Second (before_first t2 (before a1 a2) rest) (before_second a1 a2 last),
     )
 
 -- a claim that may be entered has an operation, and its operands were checked

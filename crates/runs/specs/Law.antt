@@ -1,13 +1,12 @@
 -- The law of runs, over calls and answers alone.
 use Rattle.std.specs.Prelude.{◌≡◌, ℕ, true, false, [], ◌∷◌, Some, Ok}
-use Rattle.binary32.specs.Operations.{operation_of}
+use Rattle.binary32.specs.Operations.{is_root, operation_of}
 use Rattle.binary32.specs.declared.operation.Operation.{Operation}
 use Rattle.binary32.specs.declared.word.Word.{Word}
 use Rattle.checks.specs.Examined.{claim_of}
 use Rattle.hints.specs.Writer.{written_step}
 use Rattle.hints.specs.declared.writer.Hints.{Hints}
 use Rattle.rounding.specs.Nearest.{result}
-use Rattle.sheet.specs.Operands.{is_root}
 use Rattle.runs.specs.Histories.{Claim, Event, History, on_open, close, on_closed, pending, accepted, status_of, accepted_word, granted}
 use Rattle.runs.specs.Replies.{standing, open_reply, closed_reply}
 use Rattle.runs.specs.declared.answer.ClosedAnswer.TheVariants as ClosedAnswers

@@ -8,13 +8,20 @@ use Rattle.runs.specs.declared.answer.OpenAnswer.{OpenAnswer}
 use Rattle.runs.specs.declared.call.ClosedCall.{ClosedCall}
 use Rattle.runs.specs.declared.call.OpenCall.{OpenCall}
 
+-- the answers to calls, one after another, where each call has a reply and an effect
+abbrev pub replies : {C A : Type 0} → (Model → C → A) → (Model → C → Model) → Model → List C → List A
+replies reply after m [] = []
+replies reply after m (c ∷ cs) = reply m c ∷ replies reply after (after m c) cs
+
+abbrev pub after_each : {C : Type 0} → (Model → C → Model) → Model → List C → Model
+after_each after m [] = m
+after_each after m (c ∷ cs) = after_each after (after m c) cs
+
 abbrev pub answers_from : Model → List OpenCall → List OpenAnswer
-answers_from m [] = []
-answers_from m (c ∷ cs) = open_reply m.serial (cells_of m) c ∷ answers_from (open_after m c) cs
+answers_from m cs = replies (λ k c. open_reply k.serial (cells_of k) c) open_after m cs
 
 abbrev pub after_all : Model → List OpenCall → Model
-after_all m [] = m
-after_all m (c ∷ cs) = after_all (open_after m c) cs
+after_all m cs = after_each open_after m cs
 
 -- nothing alters a closed sheet
 abbrev pub closed_answers : ℕ → Model → List ClosedCall → List ClosedAnswer

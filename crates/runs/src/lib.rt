@@ -8,4 +8,4 @@ mod run;
 
 pub use answer::{ClosedAnswer, OpenAnswer};
 pub use call::{ClosedCall, OpenCall};
-pub use run::{Answers, Replayed, replay};
+pub use run::{Answers, Replayed, Run, replay};
