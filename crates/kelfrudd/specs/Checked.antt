@@ -1,13 +1,15 @@
 -- What is answered of a claim.
-use Rattle.std.specs.Prelude.{ℕ, Bool, cond, ◌||◌, List, length, Some, None, Ok, Err, Option, ◌==◌, nat_lt, slice_index, slice_set}
+use Rattle.std.specs.Prelude.{ℕ, Bool, cond, ◌||◌, List, length, Some, None, Ok, Err, Option, Result, nat_lt, slice_index, slice_set}
 use Rattle.binary32.specs.declared.operation.Operation.{Operation}
 use Rattle.binary32.specs.declared.word.Word.{Word}
 use Rattle.checks.specs.Examined.{Outcome, examined}
-use Rattle.checks.specs.Flaws as flaws
-use Rattle.hints.specs.Refusals.{told_of}
 use Rattle.hints.specs.declared.refusal.Refusal.TheVariants.{UnknownCode}
 use Rattle.hints.specs.declared.writer.Hints.{Hints}
-use Rattle.kelfrudd.specs.declared.checking.Finding.{Finding}
+use Rattle.kelfrudd.specs.Engines.{engine_of}
+use Rattle.kelfrudd.specs.Refusals.{Reply, number_in, values_of}
+use Rattle.kelfrudd.specs.declared.engine.Engine.{Engine}
+use Rattle.kelfrudd.specs.declared.refusal.Refusal.{Refusal}
+use Rattle.kelfrudd.specs.declared.refusal.Refusal.TheVariants.{TooShort, UnknownSystem, Writer, Claim}
 
 -- the first six numbers, as hints
 abbrev pub hints_in : List ℕ → Hints
@@ -20,37 +22,46 @@ hints_in xs = record {
   up = slice_index xs 5;
 }
 
-abbrev finding : ℕ → ℕ → Finding
-finding number hint = record { number = number; hint = hint }
-
--- the number of the check that fails, and of the hint where that is a width
-abbrev pub flaw_told : Outcome → Finding
-flaw_told (Ok _) = finding 0 0
-flaw_told (Err found) = finding (flaws.told_of found).number (flaws.told_of found).first
+-- the first check that fails refuses
+abbrev pub reply_of : Outcome → Reply
+reply_of (Ok _) = Ok tt
+reply_of (Err found) = Err (Claim found)
 
 -- a code of no operation is refused before any check
-abbrev pub checked_by : Option Operation → ℕ → ℕ → Word → Hints → Finding
-checked_by None a b claimed h = finding (told_of UnknownCode).number 0
-checked_by (Some op) a b claimed h = flaw_told (examined op a b claimed h)
+abbrev pub checked_by : Option Operation → ℕ → ℕ → Word → Hints → Reply
+checked_by None a b claimed h = Err (Writer UnknownCode)
+checked_by (Some op) a b claimed h = reply_of (examined op a b (record { word = claimed; hints = h }))
 
--- the systems have the numbers 1 and 2, and find the same
-abbrev pub checked_in : ℕ → Finding → Option Finding
-checked_in system found = cond (system == 1 || system == 2) (Some found) None
+-- every system finds the same
+abbrev pub found_by : Result Engine Refusal → Reply → Option Reply
+found_by (Ok engine) found = Some found
+found_by (Err r) found = None
+
+abbrev pub checked_in : ℕ → Reply → Option Reply
+checked_in system found = found_by (engine_of system) found
 
 -- six hints are needed, and a place to name one
 abbrev pub too_few : ℕ → ℕ → Bool
 too_few places hints = nat_lt places 1 || nat_lt hints 6
 
-abbrev pub number_found : Option Finding → ℕ
-number_found None = 103
-number_found (Some found) = found.number
+abbrev pub reply_found : Option Reply → Reply
+reply_found None = Err UnknownSystem
+reply_found (Some found) = found
 
-abbrev pub checked_number : ℕ → ℕ → Option Finding → ℕ
-checked_number places hints found = cond (too_few places hints) 101 (number_found found)
+abbrev pub checked_reply : ℕ → ℕ → Option Reply → Reply
+checked_reply places hints found = cond (too_few places hints) (Err TooShort) (reply_found found)
 
-abbrev pub hint_placed : List ℕ → Option Finding → List ℕ
+abbrev pub checked_number : ℕ → ℕ → Option Reply → ℕ
+checked_number places hints found = number_in (checked_reply places hints found)
+
+-- the hint that is outside its width, or 0
+abbrev pub hint_named : Reply → ℕ
+hint_named (Ok _) = 0
+hint_named (Err r) = (values_of r).first
+
+abbrev pub hint_placed : List ℕ → Option Reply → List ℕ
 hint_placed xs None = xs
-hint_placed xs (Some found) = slice_set xs 0 found.hint
+hint_placed xs (Some found) = slice_set xs 0 (hint_named found)
 
-abbrev pub checked_places : List ℕ → ℕ → Option Finding → List ℕ
+abbrev pub checked_places : List ℕ → ℕ → Option Reply → List ℕ
 checked_places xs hints found = cond (too_few (length xs) hints) xs (hint_placed xs found)

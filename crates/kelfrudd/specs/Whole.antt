@@ -1,37 +1,54 @@
 -- What is answered of a whole sheet.
-use Rattle.std.specs.Prelude.{ℕ, ◌/◌, ◌%◌, ◌^◌, cond, List, length, Some, None, Ok, Err, Option, Result, ◌==◌, nat_lt, slice_set}
+use Rattle.std.specs.Prelude.{ℕ, ◌/◌, ◌%◌, cond, List, [], ◌∷◌, length, Some, None, Ok, Err, Option, Result, ◌==◌, nat_lt, slice_set}
 use Rattle.sheet.specs.Calls.{Model}
+use Rattle.kelfrudd.specs.Engines.{engine_of, modulus_of}
 use Rattle.kelfrudd.specs.Listed.{concluded}
+use Rattle.kelfrudd.specs.Refusals.{Reply, number_of, number_in, values_of}
+use Rattle.kelfrudd.specs.declared.engine.Engine.{Engine}
 use Rattle.kelfrudd.specs.declared.listed.Stop.{Stop}
+use Rattle.kelfrudd.specs.declared.refusal.Refusal.{Refusal}
+use Rattle.kelfrudd.specs.declared.refusal.Refusal.TheVariants.{TooShort, NoWholeRows, UnknownSystem}
 
--- system 1 is modulo 2^64, system 2 the pair
+abbrev pub concluded_by : Result Engine Refusal → Result Model Stop → Option (Result ℕ Stop)
+concluded_by (Ok engine) ran = Some (concluded (modulus_of engine) ran)
+concluded_by (Err r) ran = None
+
 abbrev pub concluded_in : ℕ → Result Model Stop → Option (Result ℕ Stop)
-concluded_in system ran =
-    cond (system == 1) (Some (concluded (2 ^ 64) ran)) (cond (system == 2) (Some (concluded 0x3C00000007FFFFFF ran)) None)
+concluded_in system ran = concluded_by (engine_of system) ran
+
+abbrev pub outcome_reply : Result ℕ Stop → Reply
+outcome_reply (Ok closing) = Ok tt
+outcome_reply (Err stop) = Err stop.refusal
 
 -- a number, how many rows passed, what a refusal tells besides in two numbers, and the closing number
+abbrev pub five : ℕ → ℕ → ℕ → ℕ → ℕ → List ℕ
+five number passed first second closing = number ∷ passed ∷ first ∷ second ∷ closing ∷ []
+
+abbrev pub outcome_told : Result ℕ Stop → ℕ → List ℕ
+outcome_told (Ok closing) rows = five 0 rows 0 0 closing
+outcome_told (Err stop) rows = five (number_of stop.refusal) stop.passed (values_of stop.refusal).first (values_of stop.refusal).second 0
+
 abbrev pub laid_five : ℕ → ℕ → ℕ → ℕ → ℕ → List ℕ → List ℕ
 laid_five number passed first second closing xs = slice_set (slice_set (slice_set (slice_set (slice_set xs 0 number) 1 passed) 2 first) 3 second) 4 closing
 
-abbrev pub outcome_number : Result ℕ Stop → ℕ
-outcome_number (Ok closing) = 0
-outcome_number (Err stop) = stop.number
-
 abbrev pub outcome_laid : Result ℕ Stop → ℕ → List ℕ → List ℕ
 outcome_laid (Ok closing) rows xs = laid_five 0 rows 0 0 closing xs
-outcome_laid (Err stop) rows xs = laid_five stop.number stop.passed stop.first stop.second 0 xs
+outcome_laid (Err stop) rows xs = laid_five (number_of stop.refusal) stop.passed (values_of stop.refusal).first (values_of stop.refusal).second 0 xs
 
-abbrev pub number_in : Option (Result ℕ Stop) → ℕ
-number_in None = 103
-number_in (Some outcome) = outcome_number outcome
+abbrev pub reply_in : Option (Result ℕ Stop) → Reply
+reply_in None = Err UnknownSystem
+reply_in (Some outcome) = outcome_reply outcome
 
 abbrev pub laid_in : Option (Result ℕ Stop) → ℕ → List ℕ → List ℕ
 laid_in None rows xs = xs
 laid_in (Some outcome) rows xs = outcome_laid outcome rows xs
 
 -- five places are needed, and the numbers have to make rows of ten
+abbrev pub sheet_reply : ℕ → ℕ → Option (Result ℕ Stop) → Reply
+sheet_reply places numbers outcome = cond (nat_lt places 5) (Err TooShort) (cond (numbers % 10 == 0) (reply_in outcome) (Err NoWholeRows))
+
 abbrev pub sheet_number : ℕ → ℕ → Option (Result ℕ Stop) → ℕ
-sheet_number places numbers outcome = cond (nat_lt places 5) 101 (cond (numbers % 10 == 0) (number_in outcome) 102)
+sheet_number places numbers outcome = number_in (sheet_reply places numbers outcome)
 
 abbrev pub sheet_places : List ℕ → ℕ → Option (Result ℕ Stop) → List ℕ
 sheet_places xs numbers outcome = cond (nat_lt (length xs) 5) xs (cond (numbers % 10 == 0) (laid_in outcome (numbers / 10) xs) xs)

@@ -1,91 +1,82 @@
 // The checks over numbers and slices.
-ghost use Rattle.std.specs.Prelude.{◌≡◌, ◌≤◌, length};
+ghost use Rattle.std.specs.Prelude.{◌≡◌, length};
 ghost use Rattle.binary32.specs.Operations.{operation_of};
-ghost use Rattle.kelfrudd.specs.Checked.{hints_in, flaw_told, checked_by, checked_in, checked_number, checked_places};
+ghost use Rattle.kelfrudd.specs.Checked.{hints_in, checked_by, checked_in, checked_reply, checked_number, checked_places, hint_named};
 
-use crate::number::{PASSED, TOO_SHORT, UNKNOWN_SYSTEM};
+use crate::engine::Engine;
+use crate::refusal::{Refusal, number_in};
 use binary32::{Operation, Word};
-use checks::{Flaw, examine};
-use hints::{Hints, Refusal};
+use checks::examine;
+use hints::{Hints, Written};
 use systems::{Pair, System, Wrapping};
 
-// A claim is refused by a number, and one of a hint outside its width names the hint.
+// That the operation with this code, on two words, has a word that the hints back.
 #[derive(Clone, Copy)]
-pub(crate) struct Finding {
-    number: u32,
-    hint: u32,
-}
-
-// The first six places of a slice, as hints.
-pub(crate) fn hints_in(hints: &[u64]) -> Hints
-    requires { 6 ≤ length hints.now }
-    ensures { result ≡ hints_in hints.now }
-{
-    Hints {
-        main: hints[0],
-        rest: hints[1],
-        lift: hints[2],
-        keep: hints[3],
-        drop: hints[4],
-        up: hints[5],
-    }
-}
-
-fn told(found: Result<(), Flaw>) -> Finding
-    ensures { result ≡ flaw_told found }
-{
-    match found {
-        Ok(()) => Finding {
-            number: PASSED,
-            hint: 0,
-        },
-        Err(Flaw::Width(hint)) => Finding {
-            number: Flaw::Width(hint).number(),
-            hint,
-        },
-        Err(flaw) => Finding {
-            number: flaw.number(),
-            hint: 0,
-        },
-    }
-}
-
-// What is found in a claim for the operation with this code, in one system.
-fn find<S: System>(
-    system: &S,
+struct Claim {
     code: u32,
     first: Word,
     second: Word,
-    claimed: Word,
-    hints: Hints,
-) -> Finding
-    ensures { result ≡ checked_by (operation_of code) first.bits second.bits claimed hints }
-{
-    match Operation::from_code(code) {
-        None => Finding {
-            number: Refusal::UnknownCode.number(),
-            hint: 0,
-        },
-        Some(operation) => told(examine(system, operation, first, second, claimed, hints)),
+    written: Written,
+}
+
+impl Claim {
+    // Nothing, where the claim is what the writer gives.
+    fn check<S: System>(self, system: &S) -> Result<(), Refusal>
+        ensures { result ≡ checked_by (operation_of self.code) self.first.bits self.second.bits self.written.word self.written.hints }
+    {
+        let operation = Operation::try_from(self.code)?;
+        examine(system, operation, self.first, self.second, self.written)?;
+        Ok(())
+    }
+
+    // The same in a system that is named.
+    fn check_in(self, engine: Engine) -> Result<(), Refusal>
+        ensures { result ≡ checked_by (operation_of self.code) self.first.bits self.second.bits self.written.word self.written.hints }
+    {
+        match engine {
+            Engine::Wrapping => self.check(&Wrapping),
+            Engine::Pair => self.check(&Pair),
+        }
     }
 }
 
-// The same in the system with this number, if there is one.
-fn find_in(
+// The number of the hint that is outside its width, or 0.
+fn hint_named(found: Result<(), Refusal>) -> u64
+    ensures { result ≡ hint_named found }
+{
+    match found {
+        Ok(()) => 0,
+        Err(refusal) => refusal.values().first,
+    }
+}
+
+fn check(
     system: u32,
     code: u32,
     first: Word,
     second: Word,
     claimed: Word,
-    hints: Hints,
-) -> Option<Finding>
-    ensures { result ≡ checked_in system (checked_by (operation_of code) first.bits second.bits claimed hints) }
+    hints: &[u64],
+    named: &mut [u64],
+) -> Result<(), Refusal>
+    ensures reply { result ≡ checked_reply (length named.old) (length hints.now) (checked_in system (checked_by (operation_of code) first.bits second.bits claimed (hints_in hints.now))) }
+    ensures after { named.new ≡ checked_places named.old (length hints.now) (checked_in system (checked_by (operation_of code) first.bits second.bits claimed (hints_in hints.now))) }
 {
-    match system {
-        1 => Some(find(&Wrapping, code, first, second, claimed, hints)),
-        2 => Some(find(&Pair, code, first, second, claimed, hints)),
-        _ => None,
-    }
+    let place = named.first_mut().ok_or(Refusal::TooShort)?;
+    let hints = hints.first_chunk::<6>().ok_or(Refusal::TooShort)?;
+    let engine = Engine::try_from(system)?;
+    let claim = Claim {
+        code,
+        first,
+        second,
+        written: Written {
+            word: claimed,
+            hints: Hints::from(*hints),
+        },
+    };
+    let found = claim.check_in(engine);
+    *place = hint_named(found);
+    found
 }
 
 // Checks a claimed word and its six hints, in the system with this number: 0 where they are what the writer gives, else the number of the
@@ -103,22 +94,13 @@ pub fn check_step(
     ensures reply { result ≡ checked_number (length named.old) (length hints.now) (checked_in system (checked_by (operation_of code) first second (record { bits = claimed }) (hints_in hints.now))) }
     ensures after { named.new ≡ checked_places named.old (length hints.now) (checked_in system (checked_by (operation_of code) first second (record { bits = claimed }) (hints_in hints.now))) }
 {
-    if named.len() < 1 || hints.len() < 6 {
-        return TOO_SHORT;
-    }
-    let found = find_in(
+    number_in(check(
         system,
         code,
         Word { bits: first },
         Word { bits: second },
         Word { bits: claimed },
-        hints_in(hints),
-    );
-    match found {
-        None => UNKNOWN_SYSTEM,
-        Some(finding) => {
-            named[0] = u64::from(finding.hint);
-            finding.number
-        }
-    }
+        hints,
+        named,
+    ))
 }

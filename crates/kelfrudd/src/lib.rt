@@ -2,8 +2,9 @@
 #![tactic(auto)]
 
 mod checking;
+mod engine;
 mod listed;
-mod number;
+mod refusal;
 mod row;
 mod whole;
 mod writing;

@@ -1,68 +1,53 @@
 // A list of rows, put on a sheet one after the other.
-ghost use Rattle.std.specs.Prelude.{◌≡◌, ◌+◌, ◌*◌, ◌/◌, ◌≤◌, length};
-ghost use Rattle.sheet.specs.Calls.{model_of};
-ghost use Rattle.kelfrudd.specs.Listed.{stop_for, stop_at, model_after, ran_to, concluded};
+ghost use Rattle.std.specs.Prelude.{◌≡◌, length};
+ghost use Rattle.kelfrudd.specs.Engines.{modulus_of};
+ghost use Rattle.kelfrudd.specs.Listed.{ran_over, concluded};
 
-use crate::number::WIDE_WORD;
-use crate::row::{row_at, take_row};
-use sheet::{OpenSheet, Refusal};
-use systems::System;
+use crate::engine::Engine;
+use crate::refusal::Refusal;
+use crate::row::take_row;
+use sheet::OpenSheet;
+use systems::{Pair, System, Wrapping};
 
-// Why a list was not taken to its end: the number that says so, how many rows passed before, and what a refusal tells besides.
-#[derive(Clone, Copy)]
+// Why a list was not taken to its end: how many rows passed before, and the refusal of the next.
+#[derive(Clone, Copy, PartialEq, Eq, Debug)]
 pub(crate) struct Stop {
-    pub(crate) number: u32,
     pub(crate) passed: u64,
-    pub(crate) first: u64,
-    pub(crate) second: u32,
+    pub(crate) refusal: Refusal,
 }
 
-fn stop_for(n: u64, refusal: Refusal) -> Stop
-    ensures { result ≡ stop_for n refusal }
-{
-    let values = refusal.values();
-    Stop {
-        number: refusal.number(),
-        passed: n,
-        first: values.first,
-        second: values.second,
+// Rows of ten numbers, and what a sheet for them is opened with.
+#[derive(Clone, Copy)]
+pub(crate) struct Listed<'a> {
+    pub(crate) serial: u32,
+    pub(crate) weight: u64,
+    pub(crate) rows: &'a [[u64; 10]],
+}
+
+impl Listed<'_> {
+    // Puts every row on a new sheet, and closes it: its closing number, or why the list was stopped.
+    fn conclude<S: System>(self, system: S) -> Result<u64, Stop>
+        ensures { result ≡ concluded S.modulus (ran_over self.entry.serial self.entry.weight self.entry.rows.now (length self.entry.rows.now)) }
+    {
+        let mut sheet = OpenSheet::new(self.serial, self.weight, system);
+        for (n, numbers) in self.rows.iter().enumerate() {
+            if let Err(refusal) = take_row(&mut sheet, *numbers) {
+                return Err(Stop {
+                    passed: n as u64,
+                    refusal,
+                });
+            }
+        }
+        Ok(sheet.close().closing_number())
     }
-}
 
-// Puts the row with this number on the sheet, and says why the list stops there, if it does.
-fn take_next<S: System>(sheet: &mut OpenSheet<S>, numbers: &[u64], n: usize) -> Option<Stop>
-    requires { 10 * n + 10 ≤ length numbers.now }
-    ensures stop { result ≡ stop_at (model_of sheet.old) numbers.now n }
-    ensures after { model_of sheet.new ≡ model_after (model_of sheet.old) numbers.now n }
-{
-    match row_at(numbers, n) {
-        None => Some(Stop {
-            number: WIDE_WORD,
-            passed: n as u64,
-            first: 0,
-            second: 0,
-        }),
-        Some(row) => match take_row(sheet, row) {
-            Ok(_) => None,
-            Err(refusal) => Some(stop_for(n as u64, refusal)),
-        },
-    }
-}
-
-// Puts every row on a new sheet, and closes it: its closing number, or why the list was stopped.
-pub(crate) fn conclude<S: System>(
-    system: S,
-    serial: u32,
-    weight: u64,
-    numbers: &[u64],
-) -> Result<u64, Stop>
-    ensures { result ≡ concluded S.modulus (ran_to serial weight numbers.now (length numbers.now / 10)) }
-{
-    let mut sheet = OpenSheet::new(serial, weight, system);
-    for n in 0..numbers.len() / 10 {
-        if let Some(stop) = take_next(&mut sheet, numbers, n) {
-            return Err(stop);
+    // The same in a system that is named.
+    pub(crate) fn conclude_in(self, engine: Engine) -> Result<u64, Stop>
+        ensures { result ≡ concluded (modulus_of engine) (ran_over self.entry.serial self.entry.weight self.entry.rows.now (length self.entry.rows.now)) }
+    {
+        match engine {
+            Engine::Wrapping => self.conclude(Wrapping),
+            Engine::Pair => self.conclude(Pair),
         }
     }
-    Ok(sheet.close().closing_number())
 }

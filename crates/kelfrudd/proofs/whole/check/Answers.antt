@@ -1,0 +1,24 @@
+use Rattle.std.proofs.Common.{◌≡◌, ◌≤◌, ◌/◌, ◌%◌, length, Ok, sym, ◌∙◌, arith}
+use Rattle.kelfrudd.specs.Engines.{engine_of}
+use Rattle.kelfrudd.specs.Listed.{ran_over, ran_to}
+use Rattle.kelfrudd.proofs.Chunks.{ran_chunks}
+use Rattle.kelfrudd.proofs.Concluded.{sheet_reply_is, sheet_places_are, told_laid}
+use Rattle.kelfrudd.proofs.whole.check.Goals as goal
+
+pub returns : goal.returns
+returns c =
+    let x = c.args in
+    let rows = c.as_chunks.result.0.now in
+    let count = length x.numbers.now in
+    let engine = c.in_ok-engine.engine in
+    let long : 5 ≤ length x.told.now = grind arith in
+    let whole : count % 10 ≡ 0 = grind arith in
+    let known : engine_of x.system ≡ Ok engine = grind arith in
+    let ran : ran_over x.serial x.weight rows (length rows) ≡ ran_to x.serial x.weight x.numbers.now (count / 10) =
+    ran_chunks x.serial x.weight x.numbers.now rows c.as_chunks.ensures.front c.as_chunks.ensures.front_len in
+    record {
+      reply = rw (c.reply_of.ensures, c.conclude_in-outcome.ensures, ran) (sym (sheet_reply_is x.told.now count x.system engine _ long whole known));
+      after =
+          rw (c.told_of.ensures, c.conclude_in-outcome.ensures, ran, c.as_chunks.ensures.front_len)
+          (told_laid _ _ x.told.now long ∙ sym (sheet_places_are x.told.now count x.system engine _ long whole known));
+    }
