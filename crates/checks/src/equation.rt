@@ -28,7 +28,7 @@ pub(crate) fn first_equation(setting: Setting, hints: Hints) -> Equation
         ..
     } = setting;
     let Hints { main, rest, .. } = hints;
-    let sum = kind == Kind::Sum;
+    let sum = matches!(kind, Kind::Sum);
     match kind {
         // One way for both, since which it is cannot be foreseen: in a difference the sides are exchanged.
         Kind::Sum | Kind::Difference => Equation {
