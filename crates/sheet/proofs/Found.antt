@@ -3,7 +3,7 @@ use Rattle.std.proofs.Common.{◌≡◌, ℕ, Ok, Err, Result, sym, refl, ap, su
 use Rattle.binary32.specs.declared.operation.Operation.{Operation}
 use Rattle.binary32.specs.declared.word.Word.{Word}
 use Rattle.checks.proofs.Settled.{examined_sound}
-use Rattle.checks.specs.Examined.{Outcome, Sound, claim_of, examined}
+use Rattle.checks.specs.Examined.{Outcome, Sound, claim_of}
 use Rattle.hints.specs.declared.writer.Hints.{Hints}
 use Rattle.sheet.specs.Calls.{Model, answer_of, cells_of, found, presented, second_word, settle_after, settle_after_at, settle_reply, settle_reply_at, with_table, word_at}
 use Rattle.sheet.specs.Right.{Refused, Right, RightAt}
@@ -15,14 +15,6 @@ use Rattle.sheet.specs.declared.cell.State.TheVariants.{Free, Input, Pending, Ac
 use Rattle.sheet.specs.declared.refusal.Refusal.{Refusal}
 use Rattle.sheet.specs.declared.refusal.Refusal.TheVariants as refusal
 use Rattle.sheet.specs.declared.ticket.Ticket.{Ticket}
-
-pub found_is : (s : Standing) (operation : Operation) (first second : ℕ) (word : Word) (hints : Hints) (a b : Word) (r : Outcome) →
-    r ≡ examined operation a.bits b.bits (claim_of word hints) → a ≡ word_at s first → b ≡ second_word s operation second →
-    r ≡ found s operation first second word hints
-unfolding found
-found_is s operation first second word hints a b r is at_first at_second =
-    subst (λ (y : Word). r ≡ examined operation (word_at s first).bits y.bits (claim_of word hints)) at_second
-    (subst (λ (x : Word). r ≡ examined operation x.bits b.bits (claim_of word hints)) at_first is)
 
 pub found_sound : (s : Standing) (operation : Operation) (first second : ℕ) (word : Word) (hints : Hints) →
     Sound (found s operation first second word hints) operation (word_at s first).bits (second_word s operation second).bits (claim_of word hints)

@@ -9,6 +9,7 @@ use binary32::Word;
 use systems::System;
 
 // The total times the weight, plus the word.
+#[tactic(auto, using(systems::proofs::Remainders::product_and_term))]
 fn with_word<S: System>(system: &S, weight: S::Element, total: S::Element, word: Word) -> S::Element
     ensures { (w n : ℕ) → S.remainder weight ≡ w % S.modulus → S.remainder total ≡ n % S.modulus → S.remainder result ≡ fold_from w n (word ∷ []) % S.modulus }
 {
