@@ -92,7 +92,7 @@ fn radicand_shift(x: NormalForm) -> u32
 
 impl Setting {
     // The setting of an exact result.
-    pub(crate) fn of(negative: bool, exact: Exact) -> Setting
+    fn of(negative: bool, exact: Exact) -> Setting
         requires { Proper exact }
         ensures { result ≡ setting_of negative exact }
     {

@@ -88,7 +88,7 @@ fn sum_main(is_sum: bool, setting: Setting) -> u64
 fn principal(setting: Setting) -> (u64, u64)
     ensures { result ≡ principal_of setting }
 {
-    let is_sum = setting.kind == Kind::Sum;
+    let is_sum = matches!(setting.kind, Kind::Sum);
     match setting.kind {
         Kind::Sum | Kind::Difference => (sum_main(is_sum, setting), 0),
         Kind::Product => (setting.first * setting.second, 0),
