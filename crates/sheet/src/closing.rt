@@ -35,6 +35,7 @@ fn with_cell<S: System>(
 }
 
 // The accepted words in order of their cells, from 0: for each, times the weight, plus the word.
+#[tactic(auto, using(crate::proofs::Folds::fold_none, crate::proofs::Folds::fold_more, crate::proofs::Folds::state_in))]
 pub(crate) fn fold_words<S: System>(system: &S, weight: u64, table: &Table) -> u64
     ensures { result ≡ closing_number S.modulus weight (standing_of table.now) }
 {

@@ -121,7 +121,7 @@ impl<S: System> OpenSheet<S> {
 
     // Examines a pending claim. It is accepted with its word where no check fails, and struck where one does. It is accepted just
     // where its word and its hints are what the writer gives.
-    #[tactic(auto, using(crate::proofs::Found::right_reply, crate::proofs::Found::refused_reply))]
+    #[tactic(auto, using(crate::proofs::Found::refused_reply))]
     pub fn settle(&mut self, ticket: Ticket, hints: Hints) -> Result<u64, Refusal>
         ensures reply { result ≡ settle_reply self.old.serial (cells_of (model_of self.old)) ticket hints }
         ensures after { model_of self.new ≡ settle_after (model_of self.old) ticket hints }
