@@ -9,7 +9,6 @@ use Rattle.sheet.specs.Tables.{has_room}
 use Rattle.sheet.specs.declared.refusal.Refusal.{Refusal}
 use Rattle.sheet.specs.declared.refusal.Refusal.TheVariants as refusal
 use Rattle.runs.proofs.Moves.{Kept, Move, Waits, moves, same, given_now, pending_now, accepted_now, struck_now, writers}
-use Rattle.runs.proofs.Statuses.{none_not_some}
 use Rattle.runs.specs.Histories.{Claim, Event, History, Status, on_open, close, on_closed, untaken, given, pending, accepted, accepted_word, cell_in, closed_up, decided, given_at, granted, pending_at, status_of, taken_in, takes, ticket_in}
 use Rattle.runs.specs.Law.{Answered, Holds, Lawful, Names, Reads, Settles, Writers}
 use Rattle.runs.specs.Replies.{standing, state_of, stubbed}
@@ -21,27 +20,27 @@ use Rattle.runs.specs.declared.call.OpenCall.TheVariants as call
 -- accepted cells stay as they are
 accepted_stays : (serial : ℕ) (h : History) (s r : Status) (w : Word) → Move serial h s r → accepted_word s ≡ Some w → accepted_word r ≡ Some w
 accepted_stays serial h s r w (same as_was) is = ap accepted_word as_was ∙ is
-accepted_stays serial h s r w (given_now v was now) is = absurd (none_not_some w (sym (ap accepted_word was) ∙ is))
-accepted_stays serial h s r w (pending_now c was now waits) is = absurd (none_not_some w (sym (ap accepted_word was) ∙ is))
-accepted_stays serial h s r w (accepted_now c was now holds) is = absurd (none_not_some w (sym (ap accepted_word was) ∙ is))
-accepted_stays serial h s r w (struck_now c was now) is = absurd (none_not_some w (sym (ap accepted_word was) ∙ is))
+accepted_stays serial h s r w (given_now v was now) is = cc
+accepted_stays serial h s r w (pending_now c was now waits) is = cc
+accepted_stays serial h s r w (accepted_now c was now holds) is = cc
+accepted_stays serial h s r w (struck_now c was now) is = cc
 
 -- a cell that is pending was so, or was entered just now
 waits_since : (serial : ℕ) (h : History) (s r : Status) → Move serial h s r → ((c : Claim) → s ≡ pending c → Waits serial h c) →
     (c : Claim) → r ≡ pending c → Waits serial h c
 waits_since serial h s r (same as_was) before c is = before c (sym as_was ∙ is)
-waits_since serial h s r (given_now v was now) before c is = let z : ◌≡◌ {A = ℕ} 0 1 = cc in absurd (omega arith)
+waits_since serial h s r (given_now v was now) before c is = cc
 waits_since serial h s r (pending_now d was now waits) before c is = let e : d ≡ c = cc in subst (Waits serial h) e waits
-waits_since serial h s r (accepted_now d was now holds) before c is = let z : ◌≡◌ {A = ℕ} 0 1 = cc in absurd (omega arith)
-waits_since serial h s r (struck_now d was now) before c is = let z : ◌≡◌ {A = ℕ} 0 1 = cc in absurd (omega arith)
+waits_since serial h s r (accepted_now d was now holds) before c is = cc
+waits_since serial h s r (struck_now d was now) before c is = cc
 
 holds_since : (serial : ℕ) (h : History) (s r : Status) → Move serial h s r → ((c : Claim) → s ≡ accepted c → Holds h c) →
     (c : Claim) → r ≡ accepted c → Holds h c
 holds_since serial h s r (same as_was) before c is = before c (sym as_was ∙ is)
-holds_since serial h s r (given_now v was now) before c is = let z : ◌≡◌ {A = ℕ} 0 1 = cc in absurd (omega arith)
-holds_since serial h s r (pending_now d was now waits) before c is = let z : ◌≡◌ {A = ℕ} 0 1 = cc in absurd (omega arith)
+holds_since serial h s r (given_now v was now) before c is = cc
+holds_since serial h s r (pending_now d was now waits) before c is = cc
 holds_since serial h s r (accepted_now d was now holds) before c is = let e : d ≡ c = cc in subst (Holds h) e holds
-holds_since serial h s r (struck_now d was now) before c is = let z : ◌≡◌ {A = ℕ} 0 1 = cc in absurd (omega arith)
+holds_since serial h s r (struck_now d was now) before c is = cc
 
 module _ (serial : ℕ) (h : History) (kept : Kept serial h) where
   -- cells beyond those that are taken stay untaken

@@ -1,5 +1,5 @@
 -- The loops of a replay, and what its answers say.
-use Rattle.std.proofs.Common.{◌≡◌, ℕ, suc, true, List, [], ◌∷◌, ◌++◌, map, length, is_err, Some, None, Ok, Err, vec_items, Option, Result, sym, refl, ap, ◌∙◌, subst, arith}
+use Rattle.std.proofs.Common.{◌≡◌, ℕ, suc, true, List, [], ◌∷◌, ◌++◌, map, length, is_err, Some, None, Ok, Err, vec_items, Option, Result, sym, refl, ap, ◌∙◌, subst}
 use Rattle.std.proofs.lemmas.List.{length-map}
 use Rattle.std.specs.declared.alloc.AllocError.{AllocError}
 use Rattle.sheet.specs.Calls.{Model, cells_of, close_after, opened}
@@ -104,5 +104,5 @@ later_answers_lem modulus m k cs closed now before are none is calls =
 -- want of memory comes before the first call
 pub law_refused : (serial weight modulus other : ℕ) (calls : List OpenCall) (closed : Option (List ClosedCall)) (r : Result Replayed AllocError) →
     is_err r ≡ true → LawOfRuns serial weight modulus other calls closed r
-law_refused serial weight modulus other calls closed (Ok x) failed = let z : ◌≡◌ {A = ℕ} 0 1 = cc in absurd (omega arith)
+law_refused serial weight modulus other calls closed (Ok x) failed = cc
 law_refused serial weight modulus other calls closed (Err e) failed = record { first = tt; second = tt; alike = tt; binding = binding; honest = honest }

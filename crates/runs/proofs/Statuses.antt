@@ -1,5 +1,5 @@
 -- Facts about how one cell stands.
-use Rattle.std.proofs.Common.{◌≡◌, ℕ, Bool, true, false, cond, is_ok, Some, None, Ok, Err, Option, Result, refl, ap, subst, arith}
+use Rattle.std.proofs.Common.{◌≡◌, ℕ, Bool, true, false, cond, is_ok, Some, None, Ok, Err, Option, refl, ap, subst}
 use Rattle.binary32.specs.Operations.{operation_of}
 use Rattle.binary32.specs.declared.operation.Operation.{Operation}
 use Rattle.binary32.specs.declared.word.Word.{Word}
@@ -14,43 +14,36 @@ use Rattle.sheet.specs.declared.refusal.Refusal.TheVariants as refusal
 use Rattle.runs.specs.Histories.{Claim, Status, untaken, given, pending, accepted, struck, accepted_word}
 use Rattle.runs.specs.Replies.{pending_state, state_of}
 
--- two answers of which one refuses are not the same
-pub refused_not_ok : {A B : Type 0} (x : A) (y : B) → ◌≡◌ {A = Result A B} (Err y) (Ok x) → ⊥
-refused_not_ok x y same = let z : ◌≡◌ {A = ℕ} 0 1 = cc in omega arith
-
-pub none_not_some : {A : Type 0} (x : A) → None ≡ Some x → ⊥
-none_not_some x same = let z : ◌≡◌ {A = ℕ} 0 1 = cc in omega arith
-
 -- the word that a claim is examined with is that of the accepted cell
 pub word_of : (s : Status) (w : Word) → accepted_word s ≡ Some w → word_or_zero (state_of s) ≡ w
-word_of untaken w is = absurd (none_not_some w is)
+word_of untaken w is = cc
 word_of (given v) w is = cc
-word_of (pending c) w is = absurd (none_not_some w is)
+word_of (pending c) w is = cc
 word_of (accepted c) w is = cc
-word_of struck w is = absurd (none_not_some w is)
+word_of struck w is = cc
 
 -- a cell that passes both checks of an operand is accepted
 passed_pending : (o : Option Operation) (c : Claim) (operand : Operand) →
     taken_in (pending_state o c) operand ≡ Ok tt → accepted_in (pending_state o c) operand ≡ Ok tt → ⊥
-passed_pending None c operand taken passed = refused_not_ok tt (refusal.NotTaken operand) taken
-passed_pending (Some op) c operand taken passed = refused_not_ok tt (refusal.NotAccepted operand) passed
+passed_pending None c operand taken passed = cc
+passed_pending (Some op) c operand taken passed = cc
 
 pub passed_accepted : (s : Status) (operand : Operand) → taken_in (state_of s) operand ≡ Ok tt → accepted_in (state_of s) operand ≡ Ok tt →
     accepted_word s ≡ Some (word_or_zero (state_of s))
-passed_accepted untaken operand taken passed = absurd (refused_not_ok tt (refusal.NotTaken operand) taken)
+passed_accepted untaken operand taken passed = cc
 passed_accepted (given w) operand taken passed = refl
 passed_accepted (pending c) operand taken passed = absurd (passed_pending (operation_of c.code) c operand taken passed)
 passed_accepted (accepted c) operand taken passed = refl
-passed_accepted struck operand taken passed = absurd (refused_not_ok tt (refusal.NotAccepted operand) passed)
+passed_accepted struck operand taken passed = cc
 
 -- one check after another
 before_first : (x y : Checked) → before x y ≡ Ok tt → x ≡ Ok tt
 before_first (Ok u) y both = refl
-before_first (Err r) y both = absurd (refused_not_ok tt r both)
+before_first (Err r) y both = cc
 
 before_second : (x y : Checked) → before x y ≡ Ok tt → y ≡ Ok tt
 before_second (Ok u) y both = both
-before_second (Err r) y both = absurd (refused_not_ok tt r both)
+before_second (Err r) y both = cc
 
 -- what the checks of operands leave
 pub one_checked : (s : Status) → operand_checked (state_of s) ≡ Ok tt → accepted_word s ≡ Some (word_or_zero (state_of s))
@@ -80,11 +73,11 @@ pub record Allowed (s : Standing) (code first second : ℕ) (op : Operation) : T
 
 allowed_if_lem : (x : Checked) (p op : Operation) → allowed_if x p ≡ Ok op → (x ≡ Ok tt) × (p ≡ op)
 allowed_if_lem (Ok u) p op is = (refl, cc)
-allowed_if_lem (Err r) p op is = absurd (refused_not_ok op r is)
+allowed_if_lem (Err r) p op is = cc
 
 allowed_for_lem : (s : Standing) (o : Option Operation) (first second : ℕ) (op : Operation) → allowed_for s o first second ≡ Ok op →
     (o ≡ Some op) × (claim_checked op (s.state first) (s.state second) ≡ Ok tt)
-allowed_for_lem s None first second op is = absurd (refused_not_ok op refusal.UnknownCode is)
+allowed_for_lem s None first second op is = cc
 allowed_for_lem s (Some p) first second op is =
     let both = allowed_if_lem (claim_checked p (s.state first) (s.state second)) p op is in
     (ap Some both.1, subst (λ q. claim_checked q (s.state first) (s.state second) ≡ Ok tt) both.1 both.0)
@@ -94,12 +87,12 @@ pub allowed_ok : (s : Standing) (code first second : ℕ) (op : Operation) (room
 allowed_ok s code first second op true is_room is =
     let both = allowed_for_lem s (operation_of code) first second op is in
     record { room = is_room; operation = both.0; checked = both.1 }
-allowed_ok s code first second op false is_room is = absurd (refused_not_ok op refusal.Full is)
+allowed_ok s code first second op false is_room is = cc
 
 -- a settle passes just where no check failed
 pub granted_passed : (cell : ℕ) (o : Outcome) → is_ok (answer_of cell o) ≡ true → o ≡ Ok tt
 granted_passed cell (Ok u) passes = refl
-granted_passed cell (Err f) passes = let z : ◌≡◌ {A = ℕ} 0 1 = cc in absurd (omega arith)
+granted_passed cell (Err f) passes = cc
 
 pub passed_granted : (cell : ℕ) (o : Outcome) → o ≡ Ok tt → is_ok (answer_of cell o) ≡ true
 passed_granted cell o passed = ap (λ x. is_ok (answer_of cell x)) passed

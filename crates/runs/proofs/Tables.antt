@@ -47,4 +47,4 @@ state_closed t n long =
 pub pending_within : (t : Table) (n : ℕ) (op : Operation) (first second : ℕ) (word : Word) → state_at t n ≡ Pending op first second word → n < 256
 pending_within t n op first second word is =
     cond_both (ltb n 256) (get_or t.cells n (cell_of Free)).state Free (λ s. s ≡ Pending op first second word → n < 256)
-    (λ within found. ltb-true n 256 within) (λ beyond found. let z : ◌≡◌ {A = ℕ} 0 1 = cc in absurd (omega arith)) is
+    (λ within found. ltb-true n 256 within) (λ beyond found. cc) is

@@ -1,5 +1,5 @@
 -- What the checks find in a pending claim, and what it says of the reply.
-use Rattle.std.proofs.Common.{◌≡◌, ℕ, Ok, Err, Result, sym, refl, ap, subst, arith}
+use Rattle.std.proofs.Common.{◌≡◌, ℕ, Ok, Err, Result, sym, refl, ap, subst}
 use Rattle.binary32.specs.declared.operation.Operation.{Operation}
 use Rattle.binary32.specs.declared.word.Word.{Word}
 use Rattle.checks.proofs.Settled.{examined_sound}
@@ -27,7 +27,7 @@ passed cell (Ok u) same = refl
 passed cell (Err flaw) same = cc
 
 refused : (cell : ℕ) (r : Refusal) → Err r ≡ Ok cell → ⊥
-refused cell r same = let z : ◌≡◌ {A = ℕ} 0 1 = cc in omega arith
+refused cell r same = cc
 
 right_at : (s : Standing) (cell : ℕ) (hints : Hints) (x : State) → RightAt s cell hints x (settle_reply_at s cell hints x)
 right_at s cell hints Free = refused cell refusal.BadTicket
