@@ -3,11 +3,8 @@
 // many lines there were of each kind.
 #![tactic(auto)]
 
-mod text;
-
-use crate::text::{ReportText, TallyText};
 use regions::{Report, Request, Tally, plan, read_request, report_on};
-use runs::{ClosedCall, replay};
+use runs::{ClosedCall, Run, replay};
 use std::alloc::{AllocError, Global};
 use std::io;
 use std::io::{BufRead, BufReader};
@@ -19,15 +16,13 @@ const WEIGHT: u64 = 0x1_0000_0000;
 // The request on a sheet over each system.
 fn show(heap: Global, serial: u32, request: Request) -> Result<Report, AllocError> {
     let calls = plan(request, serial);
-    let replayed = replay(
-        heap,
-        Wrapping,
-        Pair,
+    let run = Run {
         serial,
-        WEIGHT,
-        &calls,
-        Some(&[ClosedCall::ClosingNumber]),
-    )?;
+        weight: WEIGHT,
+        opened: &calls,
+        closed: Some(&[ClosedCall::ClosingNumber]),
+    };
+    let replayed = replay(heap, Wrapping, Pair, run)?;
     Ok(report_on(request, &replayed))
 }
 
@@ -40,8 +35,7 @@ fn main(rt: HostRuntime) -> io::Result<()> {
         match read_request(&line) {
             Ok(request) => {
                 let report = show(rt.alloc(), number, request)?;
-                let text = ReportText(report);
-                println!(rt; "line {number}: {text}")?;
+                println!(rt; "line {number}: {report}")?;
                 tally.count(Some(report.verdict));
             }
             Err(fault) => {
@@ -50,6 +44,5 @@ fn main(rt: HostRuntime) -> io::Result<()> {
             }
         }
     }
-    let text = TallyText(tally);
-    println!(rt; "{text}")
+    println!(rt; "{tally}")
 }

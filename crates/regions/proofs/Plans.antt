@@ -1,9 +1,12 @@
--- The calls of a plan, one after another.
+-- The calls of a plan, and the steps of a report, one after another.
 use Rattle.std.proofs.Common.{◌≡◌, ℕ, List, [], ◌∷◌, ◌++◌, length, get_or, refl, ap, ◌∙◌, arith}
+use Rattle.runs.specs.declared.answer.OpenAnswer.{OpenAnswer}
 use Rattle.runs.specs.declared.call.OpenCall.{OpenCall}
 use Rattle.runs.specs.declared.call.OpenCall.TheVariants.{Read}
 use Rattle.regions.specs.Claims.{calls_for, inputs_of, calls_of}
 use Rattle.regions.specs.declared.claims.Claim.{Claim}
+use Rattle.regions.specs.Findings.{steps_from}
+use Rattle.regions.specs.declared.findings.Step.{Step}
 use Rattle.regions.specs.declared.reading.Request.{Request}
 
 abbrev seven : Claim → List Claim → List Claim
@@ -29,3 +32,10 @@ pub laid : (q : Request) (serial : ℕ) (d : Claim) (cs : List Claim) (calls : L
 unfolding calls_of
 laid q serial d cs calls long each =
     ap (λ later. inputs_of q ++ later) each ∙ ap (calls_of q serial) (seven_is d cs long)
+
+-- one step, and then come the others
+pub told : {a x : Step} {rest others : List Step} → a ≡ x → rest ≡ others → a ∷ rest ≡ x ∷ others
+told first same = cc
+
+pub told_all : (answers : List OpenAnswer) (at : ℕ) (d : Claim) (cs : List Claim) (steps : List Step) → length cs ≡ 7 → steps ≡ steps_from answers at (seven d cs) → steps ≡ steps_from answers at cs
+told_all answers at d cs steps long each = each ∙ ap (steps_from answers at) (seven_is d cs long)

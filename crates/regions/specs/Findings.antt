@@ -6,20 +6,23 @@ use Rattle.runs.specs.declared.answer.OpenAnswer.TheVariants.{Input, Enter, Sett
 use Rattle.runs.specs.declared.answer.ClosedAnswer.{ClosedAnswer}
 use Rattle.runs.specs.declared.answer.ClosedAnswer.TheVariants as closed
 use Rattle.runs.specs.declared.run.Replayed.{Replayed}
+use Rattle.sheet.specs.declared.refusal.Operand.TheVariants.{First}
 use Rattle.sheet.specs.declared.refusal.Refusal.{Refusal}
 use Rattle.sheet.specs.declared.refusal.Refusal.TheVariants.{NotTaken}
 use Rattle.sheet.specs.declared.ticket.Stub.{Stub}
 use Rattle.regions.specs.Claims.{claims_of}
+use Rattle.regions.specs.declared.claims.Claim.{Claim}
 use Rattle.regions.specs.declared.findings.Outcome.{Outcome}
 use Rattle.regions.specs.declared.findings.Outcome.TheVariants.{Accepted, Refused, Unanswered}
 use Rattle.regions.specs.declared.findings.Report.{Report}
+use Rattle.regions.specs.declared.findings.Step.{Step}
 use Rattle.regions.specs.declared.findings.Verdict.{Verdict}
 use Rattle.regions.specs.declared.findings.Verdict.TheVariants.{Inside, Outside, NotShown}
 use Rattle.regions.specs.declared.reading.Request.{Request}
 
 -- the answer at a place, and past the last one what a read of a cell that is not taken gets
 abbrev pub answer_at : List OpenAnswer → ℕ → OpenAnswer
-answer_at answers at = slice_index_or answers at (Read (Err (NotTaken 1)))
+answer_at answers at = slice_index_or answers at (Read (Err (NotTaken First)))
 
 abbrev pub settled_as : Result ℕ Refusal → Outcome
 settled_as (Ok cell) = Accepted
@@ -47,11 +50,14 @@ became_by (Read reply) settled = Unanswered
 abbrev pub outcome_from : List OpenAnswer → ℕ → Outcome
 outcome_from answers at = became_by (answer_at answers at) (answer_at answers (at + 1))
 
--- the answers to five inputs come first, then two for each claim
-abbrev pub outcomes_of : List OpenAnswer → List Outcome
-outcomes_of answers =
-    outcome_from answers 5 ∷ outcome_from answers 7 ∷ outcome_from answers 9 ∷ outcome_from answers 11
-    ∷ outcome_from answers 13 ∷ outcome_from answers 15 ∷ outcome_from answers 17 ∷ []
+-- a claim with its outcome
+abbrev pub step_by : List OpenAnswer → ℕ → Claim → Step
+step_by answers at c = record { claim = c; outcome = outcome_from answers at }
+
+-- two answers for each claim, from a place on
+abbrev pub steps_from : List OpenAnswer → ℕ → List Claim → List Step
+steps_from answers at [] = []
+steps_from answers at (c ∷ cs) = step_by answers at c ∷ steps_from answers (at + 2) cs
 
 -- the word of the comparison is 1 for yes
 abbrev pub verdict_by : Result Word Refusal → Verdict
@@ -80,14 +86,12 @@ closing_of (answer ∷ another ∷ answers) = None
 abbrev pub Agreed : Replayed → Type 0
 Agreed r = vec_items r.first.opened ≡ vec_items r.second.opened
 
--- outcomes and verdict are by the answers of the first sheet
+-- the answers to five inputs come first; outcomes and verdict are by the answers of the first sheet
 abbrev pub report_of : Request → Replayed → Bool → Report
 report_of q r agree = record {
   request = q;
-  claims = claims_of q;
-  outcomes = outcomes_of (vec_items r.first.opened);
+  steps = steps_from (vec_items r.first.opened) 5 (claims_of q);
   agree = agree;
   verdict = verdict_on (answer_at (vec_items r.first.opened) 19);
-  first_closing = closing_of (vec_items r.first.closed);
-  second_closing = closing_of (vec_items r.second.closed);
+  closings = closing_of (vec_items r.first.closed) ∷ closing_of (vec_items r.second.closed) ∷ [];
 }

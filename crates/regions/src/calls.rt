@@ -12,7 +12,7 @@ fn entering(claim: Claim) -> OpenCall
     ensures { result ≡ enter_of claim }
 {
     OpenCall::Enter {
-        code: claim.operation.code(),
+        code: u32::from(claim.operation),
         first: claim.first,
         second: claim.second,
         word: claim.written.word,

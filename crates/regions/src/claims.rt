@@ -8,14 +8,14 @@ use binary32::{Operation, Word};
 use hints::{Hints, Written, write_step};
 
 // A cell and the word that it holds once it is accepted.
-#[derive(Clone, Copy)]
+#[derive(Clone, Copy, PartialEq, Eq, Debug)]
 pub struct Source {
     pub cell: u64,
     pub word: Word,
 }
 
 // That the operation on the words of two cells has a word, with the hints that back it.
-#[derive(Clone, Copy)]
+#[derive(Clone, Copy, PartialEq, Eq, Debug)]
 pub struct Claim {
     pub cell: u64,
     pub operation: Operation,
@@ -60,7 +60,7 @@ fn turn(hints: Hints) -> Hints
     ensures { result ≡ turned hints }
 {
     Hints {
-        up: if hints.up == 0 { 1 } else { 0 },
+        up: u64::from(hints.up == 0),
         ..hints
     }
 }
@@ -74,8 +74,8 @@ fn forge_if(forged: bool, claim: Claim) -> Claim
     }
     Claim {
         written: Written {
-            word: claim.written.word,
             hints: turn(claim.written.hints),
+            ..claim.written
         },
         ..claim
     }

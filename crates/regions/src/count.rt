@@ -5,7 +5,7 @@ ghost use Rattle.regions.specs.Counts.{tally_with, counted};
 use crate::findings::Verdict;
 
 // Each number stops at the end of its type.
-#[derive(Clone, Copy)]
+#[derive(Clone, Copy, PartialEq, Eq, Debug)]
 pub struct Tally {
     pub inside: u64,
     pub outside: u64,

@@ -1,16 +1,15 @@
 // What the answers of two sheets to the calls of a request say.
-ghost use Rattle.std.specs.Prelude.{◌≡◌, ◌+◌, ◌<◌, Decides};
-ghost use Rattle.regions.specs.Findings.{answer_at, once_settled, became_by, outcome_from, outcomes_of, verdict_on, closing_of, Agreed, report_of};
+ghost use Rattle.std.specs.Prelude.{◌≡◌, ◌<◌, Decides};
+ghost use Rattle.regions.specs.Findings.{answer_at, once_settled, became_by, outcome_from, step_by, steps_from, verdict_on, closing_of, Agreed, report_of};
 
-use crate::agree::same_answers;
 use crate::claims::{Claim, claims_of};
 use crate::reading::Request;
 use binary32::Word;
 use runs::{ClosedAnswer, OpenAnswer, Replayed};
-use sheet::Refusal;
+use sheet::{Operand, Refusal};
 
 // What became of a claim.
-#[derive(Clone, Copy)]
+#[derive(Clone, Copy, PartialEq, Eq, Debug)]
 pub enum Outcome {
     Accepted,
     // By the first call, to enter or to settle it, that was refused.
@@ -19,7 +18,7 @@ pub enum Outcome {
     Unanswered,
 }
 
-#[derive(Clone, Copy)]
+#[derive(Clone, Copy, PartialEq, Eq, Debug)]
 pub enum Verdict {
     Inside,
     Outside,
@@ -27,29 +26,36 @@ pub enum Verdict {
     NotShown,
 }
 
+// A claim and what became of it.
+#[derive(Clone, Copy, PartialEq, Eq, Debug)]
+pub struct Step {
+    pub claim: Claim,
+    pub outcome: Outcome,
+}
+
 // What the sheets say of a request.
-#[derive(Clone, Copy)]
+#[derive(Clone, Copy, PartialEq, Eq, Debug)]
 pub struct Report {
     pub request: Request,
-    pub claims: [Claim; 7],
-    pub outcomes: [Outcome; 7],
+    pub steps: [Step; 7],
     // Whether both sheets gave the same answers while they were open.
     pub agree: bool,
     pub verdict: Verdict,
     // That of the sheet over each system, if there is one.
-    pub first_closing: Option<u64>,
-    pub second_closing: Option<u64>,
+    pub closings: [Option<u64>; 2],
 }
 
 // The answer at a place. Past the last one it is what a read of a cell that is not taken gets.
 fn answer_at(answers: &[OpenAnswer], at: usize) -> OpenAnswer
     ensures { result ≡ answer_at answers.now at }
 {
-    if at < answers.len() {
-        answers[at]
-    } else {
-        OpenAnswer::Read(Err(Refusal::NotTaken { operand: 1 }))
-    }
+    let not_taken = Refusal::NotTaken {
+        operand: Operand::First,
+    };
+    answers
+        .get(at)
+        .copied()
+        .unwrap_or(OpenAnswer::Read(Err(not_taken)))
 }
 
 fn once_settled(settled: OpenAnswer) -> Outcome
@@ -80,17 +86,31 @@ fn outcome_at(answers: &[OpenAnswer], at: usize) -> Outcome
     became(answer_at(answers, at), answer_at(answers, at + 1))
 }
 
-fn outcomes(answers: &[OpenAnswer]) -> [Outcome; 7]
-    ensures { result ≡ outcomes_of answers.now }
+// The claim whose entering was answered at a place, with its outcome.
+fn step_at(claim: Claim, answers: &[OpenAnswer], at: usize) -> Step
+    requires { at < 20 }
+    ensures { result ≡ step_by answers.now at claim }
 {
+    Step {
+        claim,
+        outcome: outcome_at(answers, at),
+    }
+}
+
+// The answers to five inputs come first, then two for each claim. The seven stand by hand: nothing is known of what a closure that
+// an array's method calls has captured, from one call to the next, so a proof over such calls does not close.
+fn steps(claims: [Claim; 7], answers: &[OpenAnswer]) -> [Step; 7]
+    ensures { result ≡ steps_from answers.now 5 claims }
+{
+    let [dx, dy, dx_squared, dy_squared, sum, root, inside] = claims;
     [
-        outcome_at(answers, 5),
-        outcome_at(answers, 7),
-        outcome_at(answers, 9),
-        outcome_at(answers, 11),
-        outcome_at(answers, 13),
-        outcome_at(answers, 15),
-        outcome_at(answers, 17),
+        step_at(dx, answers, 5),
+        step_at(dy, answers, 7),
+        step_at(dx_squared, answers, 9),
+        step_at(dy_squared, answers, 11),
+        step_at(sum, answers, 13),
+        step_at(root, answers, 15),
+        step_at(inside, answers, 17),
     ]
 }
 
@@ -99,13 +119,8 @@ fn verdict_on(read: OpenAnswer) -> Verdict
     ensures { result ≡ verdict_on read }
 {
     match read {
-        OpenAnswer::Read(Ok(word)) => {
-            if word.bits == Word::ONE.bits {
-                Verdict::Inside
-            } else {
-                Verdict::Outside
-            }
-        }
+        OpenAnswer::Read(Ok(Word::ONE)) => Verdict::Inside,
+        OpenAnswer::Read(Ok(_)) => Verdict::Outside,
         _ => Verdict::NotShown,
     }
 }
@@ -124,14 +139,12 @@ pub fn report_on(request: Request, replayed: &Replayed) -> Report
     ensures value { result ≡ report_of request replayed.now result.agree }
     ensures agree { Decides result.agree (Agreed replayed.now) }
 {
-    let answers = &replayed.first.opened;
+    let Replayed { first, second } = replayed;
     Report {
         request,
-        claims: claims_of(request),
-        outcomes: outcomes(answers),
-        agree: same_answers(answers, &replayed.second.opened),
-        verdict: verdict_on(answer_at(answers, 19)),
-        first_closing: closing(&replayed.first.closed),
-        second_closing: closing(&replayed.second.closed),
+        steps: steps(claims_of(request), &first.opened),
+        agree: first.opened == second.opened,
+        verdict: verdict_on(answer_at(&first.opened, 19)),
+        closings: [closing(&first.closed), closing(&second.closed)],
     }
 }

@@ -2,15 +2,15 @@
 // that show it, and what the answers to those calls say.
 #![tactic(auto)]
 
-mod agree;
 mod calls;
 mod claims;
 mod count;
 mod findings;
 mod reading;
+mod text;
 
 pub use calls::plan;
 pub use claims::Claim;
 pub use count::Tally;
-pub use findings::{Outcome, Report, Verdict, report_on};
+pub use findings::{Outcome, Report, Step, Verdict, report_on};
 pub use reading::{Point, Request, read_request};
