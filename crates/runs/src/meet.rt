@@ -1,14 +1,12 @@
 // One call, made on a sheet.
 ghost use Rattle.std.specs.Prelude.{◌≡◌};
-ghost use Rattle.sheet.specs.Calls.{Model, model_of, cells_of, close_after, enter_reply, enter_after, opened};
-ghost use Rattle.sheet.specs.Tickets.{ticket_of};
-ghost use Rattle.runs.specs.Replies.{stubbed, open_reply, closed_reply};
+ghost use Rattle.sheet.specs.Calls.{Model, model_of, cells_of, close_after, opened};
+ghost use Rattle.runs.specs.Replies.{open_reply, closed_reply};
 ghost use Rattle.runs.specs.Sheets.{open_after};
 
 use crate::answer::{ClosedAnswer, OpenAnswer};
 use crate::call::{ClosedCall, OpenCall};
-use binary32::Word;
-use sheet::{ClosedSheet, OpenSheet, Refusal, Stub, Ticket};
+use sheet::{ClosedSheet, OpenSheet, Ticket};
 use systems::System;
 
 // What meets calls, one after another.
@@ -39,12 +37,6 @@ pub(crate) struct Attended<S: System> {
     counter: ClosedSheet<S>,
 }
 
-fn presented(stub: Stub) -> Ticket
-    ensures { result ≡ ticket_of stub }
-{
-    Ticket::new(stub.serial, stub.cell)
-}
-
 impl<S: System> Attended<S> {
     pub(crate) fn new(serial: u32, weight: u64, system: S) -> Self
         ensures { model_of result.sheet ≡ opened serial weight }
@@ -53,14 +45,6 @@ impl<S: System> Attended<S> {
             sheet: OpenSheet::new(serial, weight, system),
             counter: OpenSheet::new(serial, weight, system).close(),
         }
-    }
-
-    fn enter(&mut self, code: u32, first: u64, second: u64, word: Word) -> Result<Stub, Refusal>
-        ensures reply { result ≡ stubbed (enter_reply self.old.sheet.serial (cells_of (model_of self.old.sheet)) code first second) }
-        ensures after { model_of self.new.sheet ≡ enter_after (model_of self.old.sheet) code first second word }
-    {
-        let ticket = self.sheet.enter(code, first, second, word)?;
-        Ok(self.counter.hand_in(ticket))
     }
 
     pub(crate) fn close(self) -> ClosedSheet<S>
@@ -90,11 +74,15 @@ impl<S: System> Meets for Attended<S> {
                 first,
                 second,
                 word,
-            } => OpenAnswer::Enter(self.enter(code, first, second, word)),
-            OpenCall::Settle { ticket, hints } => {
-                OpenAnswer::Settle(self.sheet.settle(presented(ticket), hints))
+            } => {
+                let counter = &self.counter;
+                let entered = self.sheet.enter(code, first, second, word);
+                OpenAnswer::Enter(entered.map(|ticket| counter.hand_in(ticket)))
             }
-            OpenCall::Strike(ticket) => OpenAnswer::Strike(self.sheet.strike(presented(ticket))),
+            OpenCall::Settle { ticket, hints } => {
+                OpenAnswer::Settle(self.sheet.settle(Ticket::from(ticket), hints))
+            }
+            OpenCall::Strike(ticket) => OpenAnswer::Strike(self.sheet.strike(Ticket::from(ticket))),
             OpenCall::Read(cell) => OpenAnswer::Read(self.sheet.read(cell)),
         }
     }
@@ -116,7 +104,7 @@ impl<S: System> Meets for ClosedSheet<S> {
         match call {
             ClosedCall::Read(cell) => ClosedAnswer::Read(self.read(cell)),
             ClosedCall::ClosingNumber => ClosedAnswer::ClosingNumber(self.closing_number()),
-            ClosedCall::HandIn(ticket) => ClosedAnswer::HandIn(self.hand_in(presented(ticket))),
+            ClosedCall::HandIn(ticket) => ClosedAnswer::HandIn(self.hand_in(Ticket::from(ticket))),
         }
     }
 }

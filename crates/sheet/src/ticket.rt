@@ -17,6 +17,15 @@ pub struct Stub {
     pub cell: u64,
 }
 
+// A ticket that was spent is presented again by its two numbers.
+impl From<Stub> for Ticket {
+    ghost from_gives = { λ stub ticket. ticket ≡ ticket_of stub };
+
+    fn from(stub: Stub) -> Ticket {
+        Ticket::new(stub.serial, stub.cell)
+    }
+}
+
 impl Ticket {
     pub fn new(serial: u32, cell: u64) -> Ticket
         ensures serial { result.serial ≡ serial }

@@ -69,7 +69,7 @@ fn of_another_cell<S: System>(rt: &impl Abort, system: S) -> Result<(), Fail> {
     is_bad(rt, &mut sheet, 7, 1)?;
     is_bad(rt, &mut sheet, 7, 3)?;
     is_bad(rt, &mut sheet, 7, 0xFFFF_FFFF_FFFF_FFFF)?;
-    let again = Ticket::new(stub.serial, stub.cell);
+    let again = Ticket::from(stub);
     assert_eq!(rt; sheet.settle(again, TWICE_ONE), Ok(2));
     assert_eq!(rt; sheet.read(2), Ok(TWO));
     Ok(())
