@@ -1,6 +1,6 @@
 -- A claim passes all checks just where it is what the writer gives: passing them is to back the step, the
 -- writer's answer backs it, and no other does.
-use Rattle.std.proofs.Common.{◌≡◌, ℕ, Bool, eqb, Ok, ◌↔◌, sym, refl, ap, ◌∙◌, subst, arith}
+use Rattle.std.proofs.Common.{◌≡◌, ℕ, Bool, true, eqb, None, Ok, ◌↔◌, sym, refl, ◌∙◌, subst, arith}
 use Rattle.std.proofs.lemmas.Bool.{eqb-true, eq-eqb}
 use Rattle.binary32.specs.Normal.{ProperStep}
 use Rattle.binary32.specs.Steps.{step_of}
@@ -10,7 +10,7 @@ use Rattle.binary32.specs.declared.step.Step.{Step}
 use Rattle.binary32.specs.declared.step.Step.TheVariants.{Direct, Rounded}
 use Rattle.binary32.specs.declared.word.Word.{Word}
 use Rattle.binary32.proofs.Steps.{step_proper}
-use Rattle.hints.specs.Backs.{Backs, NoHints}
+use Rattle.hints.specs.Backs.{Backs}
 use Rattle.hints.specs.Cases.{case_from}
 use Rattle.hints.specs.Scheme.{exponent_of, cut_of, up_of, magnitude_from}
 use Rattle.hints.specs.Settings.{setting_of}
@@ -27,7 +27,7 @@ use Rattle.checks.specs.Equations.{first_equation, second_equation}
 use Rattle.checks.specs.Examined.{Outcome, examined_direct, examined_rounded, examined_case, examined, Sound}
 use Rattle.checks.specs.Widths.{front_outside, back_outside, some_hint}
 use Rattle.checks.specs.declared.flaw.Flaw.TheVariants as flaw
-use Rattle.checks.proofs.Passed.{check_passed, check_passes, widths_passed, widths_pass, front_within, within_front, back_within, within_back, no_hints, hints_none, first_holds, holds_first}
+use Rattle.checks.proofs.Passed.{check_passed, widths_passed, front_within, within_front, back_within, within_back, no_hints, first_holds, holds_first}
 
 module _ (σ : Setting) (w : Written) where
   abbrev h : Hints
@@ -77,21 +77,21 @@ module _ (σ : Setting) (w : Written) where
   -- a claim that backs the step passes
   backs_passes : Backs σ w → examined_rounded σ w ≡ Ok tt
   backs_passes backs =
-      widths_pass (front_outside σ.kind σ.second h) _
-      (within_front σ.kind σ.second h (record {
+      let front : front_outside σ.kind σ.second h ≡ None =
+      within_front σ.kind σ.second h (record {
         main_fits = backs.main_fits;
         rest_width = backs.rest_width;
         lift_width = backs.lift_width;
         lift_low = backs.lift_low;
         lift_high = backs.lift_high;
-      }))
-      (widths_pass (back_outside k h) _
-      (within_back k h (record { keep_width = backs.keep_width; drop_width = backs.drop_width; up_width = backs.up_width }))
-      (check_passes first_test flaw.FirstEquation _
-      (holds_first σ.kind σ.first σ.second σ.shift h.main h.rest backs.first_balance)
-      (check_passes second_test flaw.SecondEquation _ (eq-eqb _ _ (omega (arith, backs.second_balance)))
-      (check_passes up_test flaw.Up _ (eq-eqb _ _ backs.up_rule)
-      (check_passes (eqb w.word.bits word) flaw.Word (Ok tt) (eq-eqb _ _ backs.word_is) refl)))))
+      }) in
+      let back : back_outside k h ≡ None =
+      within_back k h (record { keep_width = backs.keep_width; drop_width = backs.drop_width; up_width = backs.up_width }) in
+      let first = holds_first σ.kind σ.first σ.second σ.shift h.main h.rest backs.first_balance in
+      let second : second_test ≡ true = eq-eqb _ _ (omega (arith, backs.second_balance)) in
+      let up : up_test ≡ true = eq-eqb _ _ backs.up_rule in
+      let same : eqb w.word.bits word ≡ true = eq-eqb _ _ backs.word_is in
+      rw (front, back, first, second, up, same) refl
 
 module _ (word : Word) (w : Written) where
   -- a claim that passes has the word of the direct step and no hints
@@ -107,17 +107,7 @@ module _ (word : Word) (w : Written) where
       }
 
   direct_passes : w ≡ written_for (Direct word) → examined_direct word w ≡ Ok tt
-  direct_passes same =
-      let zeros : NoHints w.hints = record {
-        no_main = ap (λ (w : Written). w.hints.main) same;
-        no_rest = ap (λ (w : Written). w.hints.rest) same;
-        no_lift = ap (λ (w : Written). w.hints.lift) same;
-        no_keep = ap (λ (w : Written). w.hints.keep) same;
-        no_drop = ap (λ (w : Written). w.hints.drop) same;
-        no_up = ap (λ (w : Written). w.hints.up) same;
-      } in
-      widths_pass (some_hint w.hints) _ (hints_none w.hints zeros)
-      (check_passes (eqb w.word.bits word.bits) flaw.Word (Ok tt) (eq-eqb _ _ (ap (λ (w : Written). w.word.bits) same)) refl)
+  direct_passes same = subst (λ (v : Written). examined_direct word v ≡ Ok tt) (sym same) (rw (eq-eqb word.bits word.bits refl) refl)
 
 step_settles : (step : Step) → ProperStep step → (w : Written) → (examined_case (case_from step) w ≡ Ok tt) ↔ (w ≡ written_for step)
 step_settles (Direct word) proper w = (direct_passed word w, direct_passes word w)
