@@ -28,6 +28,7 @@ pub(crate) fn first_equation(setting: Setting, hints: Hints) -> Equation
         ..
     } = setting;
     let Hints { main, rest, .. } = hints;
+    // A pattern is faster here than `==`, which borrows the kind: the compiler then reads it together with its neighbours.
     let sum = matches!(kind, Kind::Sum);
     match kind {
         // One way for both, since which it is cannot be foreseen: in a difference the sides are exchanged.
