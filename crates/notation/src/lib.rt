@@ -10,7 +10,7 @@ mod reader;
 pub use fault::Fault;
 pub use line::{Request, read_step};
 pub use name::{name_of, operation_named};
-pub use numeral::{digit, digits, read_word};
+pub use numeral::{Numeral, digit, digits, read_word};
 pub use reader::Reader;
 
 #[cfg(test)]

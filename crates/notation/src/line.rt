@@ -1,11 +1,13 @@
 // Steps as lines: the operation's name, then a space and eight digits for each operand, then the end.
-ghost use Rattle.std.specs.Prelude.{◌≡◌};
-ghost use Rattle.notation.specs.Lines.{operands_of, read_step, ReadsBack};
+ghost use Rattle.std.specs.Prelude.{◌≡◌, Some};
+ghost use Rattle.notation.specs.Lines.{line_of, operands_of, read_step, ReadsBack};
 
 use crate::fault::Fault;
-use crate::name::operation_named;
+use crate::name::{name_of, operation_named};
+use crate::numeral::Numeral;
 use crate::reader::Reader;
 use binary32::{Operation, Word};
+use std::fmt;
 
 // An operation on words. The second word of a square root is zero.
 #[derive(Clone, Copy, PartialEq, Eq, Debug)]
@@ -13,6 +15,22 @@ pub struct Request {
     pub operation: Operation,
     pub first: Word,
     pub second: Word,
+}
+
+// A request as the line that it is read from.
+impl fmt::Display for Request {
+    ghost output = { λ request. Some (line_of request.operation request.first request.second) };
+
+    fn fmt<W: fmt::Write>(&self, f: &mut fmt::Formatter<W>) -> fmt::Result {
+        let name = name_of(self.operation);
+        let first = Numeral(self.first);
+        let second = Numeral(self.second);
+        if self.operation.is_root() {
+            write!(f, "{name} {first}")
+        } else {
+            write!(f, "{name} {first} {second}")
+        }
+    }
 }
 
 // The request of an operation whose operands stand from here to the line's end.

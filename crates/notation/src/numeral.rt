@@ -1,11 +1,11 @@
 // Words as eight hexadecimal digits with capitals.
-ghost use Rattle.std.specs.Prelude.{◌≡◌, ◌<◌, ◌≤◌, map, length, take, Ok, MatchResult};
+ghost use Rattle.std.specs.Prelude.{Some, ◌≡◌, ◌<◌, ◌≤◌, map, length, take, Ok, MatchResult};
 ghost use Rattle.std.specs.Int.Digits.{number_from_digits};
 ghost use Rattle.std.specs.List.{prefix_len};
 ghost use Rattle.notation.specs.Numerals.{digit_of, code_of, is_digit, value_of, word_of, places_of, digits_of};
 
 use binary32::Word;
-use std::array;
+use std::{array, fmt, str};
 
 // The value of a digit, 0 to 9 and A to F. Any other byte is none.
 pub fn digit(byte: u8) -> Option<u32>
@@ -53,4 +53,18 @@ pub fn digits(word: Word) -> [u8; 8]
     ensures read { word_of result ≡ Ok word }
 {
     array::from_fn(|i| capital((word.bits >> (28 - 4 * i)) % 16))
+}
+
+// A word as its eight digits.
+#[derive(Clone, Copy, PartialEq, Eq, Debug)]
+pub struct Numeral(pub Word);
+
+impl fmt::Display for Numeral {
+    ghost output = { λ numeral. Some (digits_of numeral.0.bits) };
+
+    fn fmt<W: fmt::Write>(&self, f: &mut fmt::Formatter<W>) -> fmt::Result {
+        let digits = digits(self.0);
+        let text = str::from_utf8(&digits).map_err(|_| fmt::Error)?;
+        f.write_str(text)
+    }
 }

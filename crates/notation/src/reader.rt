@@ -1,7 +1,7 @@
 // A place in a line of text, from which the line is read on.
 ghost use Rattle.std.specs.Prelude.{◌≡◌, ◌+◌, ◌≤◌, cond, length, OnOk, OnErr};
 ghost use Rattle.notation.specs.Lines.{name_end};
-ghost use Rattle.notation.specs.Places.{start_of, past, rest_of, name_here, stands_here, word_here, operand_here, end_here};
+ghost use Rattle.notation.specs.Places.{start_of, past, rest_of, name_here, stands_here, space_here, word_here, operand_here, end_here};
 
 use crate::fault::Fault;
 use crate::numeral::read_word;
@@ -44,13 +44,20 @@ impl<'a> Reader<'a> {
         Reader { line, at: 0 }
     }
 
+    // What is left of the line.
+    pub fn rest(&self) -> &'a [u8]
+        ensures { result.now ≡ rest_of self.now }
+    {
+        let line = self.line;
+        &line[self.at..]
+    }
+
     // The text from here to the next space, or to the line's end.
     pub fn name(&mut self) -> &'a [u8]
         ensures text { result.now ≡ name_here self.old }
         ensures after { self.new ≡ past (name_end (rest_of self.old)) self.old }
     {
-        let line = self.line;
-        let rest = &line[self.at..];
+        let rest = self.rest();
         let end = name_end(rest);
         self.at += end;
         &rest[..end]
@@ -61,7 +68,7 @@ impl<'a> Reader<'a> {
         ensures test { result ≡ stands_here text.now self.old }
         ensures after { self.new ≡ cond result (past (length text.now) self.old) self.old }
     {
-        let stands = self.line[self.at..].starts_with(text);
+        let stands = self.rest().starts_with(text);
         if stands {
             self.at += text.len();
         }
@@ -82,11 +89,25 @@ impl<'a> Reader<'a> {
         ensures unmoved { OnErr result (self.new ≡ self.old) }
     {
         let start = self.column();
-        let word = read_word(&self.line[self.at..]).map_err(|count| Fault::BadDigit {
+        let word = read_word(self.rest()).map_err(|count| Fault::BadDigit {
             column: start + count,
         })?;
         self.at += 8;
         Ok(word)
+    }
+
+    // A space that stands here.
+    pub fn space(&mut self) -> Result<(), Fault>
+        ensures value { result ≡ space_here self.old }
+        ensures after { OnOk result (self.new ≡ past 1 self.old) }
+        ensures unmoved { OnErr result (self.new ≡ self.old) }
+    {
+        let column = self.column();
+        if self.skip(b" ") {
+            Ok(())
+        } else {
+            Err(Fault::MissingWord { column })
+        }
     }
 
     // The word after a space that stands here.
@@ -95,14 +116,11 @@ impl<'a> Reader<'a> {
         ensures after { OnOk result (self.new ≡ past 9 self.old) }
         ensures unmoved { OnErr result (self.new ≡ self.old) }
     {
-        let column = self.column();
         let mut ahead = Reader {
             line: self.line,
             at: self.at,
         };
-        if !ahead.skip(b" ") {
-            return Err(Fault::MissingWord { column });
-        }
+        ahead.space()?;
         let word = ahead.word()?;
         *self = ahead;
         Ok(word)

@@ -10,7 +10,7 @@ use Rattle.notation.specs.declared.line.Request.{Request}
 use Rattle.notation.specs.declared.fault.Fault.{Fault}
 use Rattle.writing.specs.declared.vector.Vector.{Vector}
 use Rattle.writing.specs.declared.verdict.Verdict.{Verdict}
-use Rattle.writing.specs.declared.verdict.Verdict.TheVariants.{Agrees, Differs, NoVector}
+use Rattle.writing.specs.declared.verdict.Verdict.TheVariants.{Agrees, Differs}
 
 abbrev pub expecting : Word → Result Request Fault → Option Vector
 expecting expected (Ok request) = Some (record { expected = expected; request = request })
@@ -31,12 +31,16 @@ meant_by expected = cond (nat_lt 0x7f800000 (magnitude_of expected.bits)) (recor
 abbrev pub verdict_on : Operation → Word → Word → Verdict
 verdict_on operation expected found = cond (expected.bits == found.bits) (Agrees operation) (Differs operation expected found)
 
-abbrev pub verdict_of : Option Vector → Verdict
-verdict_of None = NoVector
-verdict_of (Some v) =
-    verdict_on v.request.operation (meant_by v.expected)
-    (written_step v.request.operation v.request.first.bits v.request.second.bits).word
+abbrev pub operation_of : Verdict → Operation
+operation_of (Agrees operation) = operation
+operation_of (Differs operation expected found) = operation
 
--- the expected word is held to the one that the writer gives
-abbrev pub judged : List ℕ → Verdict
+abbrev pub verdict_of : Option Vector → Option Verdict
+verdict_of None = None
+verdict_of (Some v) = Some
+    (verdict_on v.request.operation (meant_by v.expected)
+    (written_step v.request.operation v.request.first.bits v.request.second.bits).word)
+
+-- the expected word is held to the one that the writer gives; a line that is no vector has no verdict
+abbrev pub judged : List ℕ → Option Verdict
 judged line = verdict_of (vector_of line)

@@ -1,18 +1,64 @@
 // How many vectors of each operation agree with the writer, and how many differ.
-ghost use Rattle.std.specs.Prelude.{◌≡◌, ◌<◌, slice_index};
-ghost use Rattle.writing.specs.Tallies.{nothing, place_of, raised, added};
+ghost use Rattle.std.specs.Prelude.{◌≡◌, ◌<◌, Some};
+ghost use Rattle.writing.specs.Tallies.{none_judged, one_judged, nothing, place_of, count_of, added};
+ghost use Rattle.writing.specs.Texts.{count_text};
 
 use crate::verdict::Verdict;
 use binary32::Operation;
+use std::fmt;
 
-// The operations stand in the order of their codes. Each number stops at the end of its type.
-#[derive(Clone, Copy)]
+// How many vectors agree, and how many differ. Each number stops at the end of its type.
+#[derive(Clone, Copy, PartialEq, Eq, Debug)]
+pub struct Count {
+    pub agreeing: u64,
+    pub differing: u64,
+}
+
+impl Count {
+    fn none() -> Count
+        ensures { result ≡ none_judged }
+    {
+        Count {
+            agreeing: 0,
+            differing: 0,
+        }
+    }
+
+    // The count with one verdict more.
+    fn with(self, verdict: Verdict) -> Count
+        ensures { result ≡ one_judged self verdict }
+    {
+        match verdict {
+            Verdict::Agrees(_) => Count {
+                agreeing: self.agreeing.saturating_add(1),
+                ..self
+            },
+            Verdict::Differs { .. } => Count {
+                differing: self.differing.saturating_add(1),
+                ..self
+            },
+        }
+    }
+}
+
+impl fmt::Display for Count {
+    ghost output = { λ count. Some (count_text count) };
+
+    fn fmt<W: fmt::Write>(&self, f: &mut fmt::Formatter<W>) -> fmt::Result {
+        let Count {
+            agreeing,
+            differing,
+        } = *self;
+        write!(f, "{agreeing} agree, {differing} differ")
+    }
+}
+
+// The operations stand in the order of their codes.
+#[derive(Clone, Copy, PartialEq, Eq, Debug)]
 pub struct Counts {
-    agreeing: [u64; 8],
-    differing: [u64; 8],
+    each: [Count; 8],
     // Those of all operations.
-    pub all_agreeing: u64,
-    pub all_differing: u64,
+    pub all: Count,
     // Lines that are no vector.
     pub unread: u64,
 }
@@ -22,25 +68,7 @@ fn place(operation: Operation) -> usize
     ensures value { result ≡ place_of operation }
     ensures bound { result < 8 }
 {
-    match operation {
-        Operation::Add => 0,
-        Operation::Subtract => 1,
-        Operation::Multiply => 2,
-        Operation::Divide => 3,
-        Operation::SquareRoot => 4,
-        Operation::Equal => 5,
-        Operation::Less => 6,
-        Operation::AtMost => 7,
-    }
-}
-
-// One more at the operation's place.
-fn raise(mut counts: [u64; 8], operation: Operation) -> [u64; 8]
-    ensures { result ≡ raised counts operation }
-{
-    let i = place(operation);
-    counts[i] = counts[i].saturating_add(1);
-    counts
+    u32::from(operation) as usize - 1
 }
 
 impl Counts {
@@ -48,42 +76,30 @@ impl Counts {
         ensures { result ≡ nothing }
     {
         Counts {
-            agreeing: [0; 8],
-            differing: [0; 8],
-            all_agreeing: 0,
-            all_differing: 0,
+            each: [Count::none(); 8],
+            all: Count::none(),
             unread: 0,
         }
     }
 
-    // Counts one verdict more.
-    pub fn add(&mut self, verdict: Verdict)
+    // Counts one line more: what is said of its vector, if it is one.
+    pub fn add(&mut self, verdict: Option<Verdict>)
         ensures { self.new ≡ added self.old verdict }
     {
         match verdict {
-            Verdict::Agrees(operation) => {
-                self.agreeing = raise(self.agreeing, operation);
-                self.all_agreeing = self.all_agreeing.saturating_add(1);
+            Some(verdict) => {
+                let i = place(verdict.operation());
+                self.each[i] = self.each[i].with(verdict);
+                self.all = self.all.with(verdict);
             }
-            Verdict::Differs { operation, .. } => {
-                self.differing = raise(self.differing, operation);
-                self.all_differing = self.all_differing.saturating_add(1);
-            }
-            Verdict::NoVector => self.unread = self.unread.saturating_add(1),
+            None => self.unread = self.unread.saturating_add(1),
         }
     }
 
-    // How many vectors of the operation agree.
-    pub fn agreeing(&self, operation: Operation) -> u64
-        ensures { result ≡ slice_index self.now.agreeing (place_of operation) }
+    // How many vectors of the operation agree, and how many differ.
+    pub fn of(&self, operation: Operation) -> Count
+        ensures { result ≡ count_of self.now operation }
     {
-        self.agreeing[place(operation)]
-    }
-
-    // How many vectors of the operation differ.
-    pub fn differing(&self, operation: Operation) -> u64
-        ensures { result ≡ slice_index self.now.differing (place_of operation) }
-    {
-        self.differing[place(operation)]
+        self.each[place(operation)]
     }
 }

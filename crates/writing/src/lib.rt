@@ -9,7 +9,7 @@ mod vector;
 mod verdict;
 
 pub use answer::{Answer, answer_to};
-pub use counts::Counts;
+pub use counts::{Count, Counts};
 pub use tally::Tally;
 pub use vector::{Vector, read_vector};
 pub use verdict::{Verdict, judge, meant_by};

@@ -4,10 +4,11 @@ ghost use Rattle.writing.specs.Tallies.{none, counted};
 ghost use Rattle.writing.specs.Texts.{tally_text};
 
 use crate::answer::Answer;
+use notation::Fault;
 use std::fmt;
 
 // Each number stops at the end of its type.
-#[derive(Clone, Copy)]
+#[derive(Clone, Copy, PartialEq, Eq, Debug)]
 pub struct Tally {
     // Steps that need no rounding.
     pub direct: u64,
@@ -28,18 +29,15 @@ impl Tally {
     }
 
     // Counts one answer more. A step is direct just if its main is 0: a rounded step has none such.
-    pub fn count(&mut self, answer: &Answer)
+    pub fn count(&mut self, answer: &Result<Answer, Fault>)
         ensures { self.new ≡ counted self.old answer.now }
     {
         match answer {
-            Answer::Written { written, .. } => {
-                if written.hints.main == 0 {
-                    self.direct = self.direct.saturating_add(1);
-                } else {
-                    self.rounded = self.rounded.saturating_add(1);
-                }
+            Ok(answer) if answer.written.hints.main == 0 => {
+                self.direct = self.direct.saturating_add(1);
             }
-            Answer::NoStep(_) => self.refused = self.refused.saturating_add(1),
+            Ok(_) => self.rounded = self.rounded.saturating_add(1),
+            Err(_) => self.refused = self.refused.saturating_add(1),
         }
     }
 }

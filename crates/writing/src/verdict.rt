@@ -1,16 +1,15 @@
 // Vectors held to the writer.
 ghost use Rattle.std.specs.Prelude.{◌≡◌, Some};
 ghost use Rattle.writing.specs.Texts.{verdict_text};
-ghost use Rattle.writing.specs.Verdicts.{meant_by, verdict_on, judged};
+ghost use Rattle.writing.specs.Verdicts.{operation_of, meant_by, verdict_on, judged};
 
-use crate::text::Numeral;
 use crate::vector::read_vector;
-use binary32::{Operation, Word};
+use binary32::{Class, Operation, Word};
 use hints::write_step;
-use notation::name_of;
+use notation::{Numeral, name_of};
 use std::fmt;
 
-#[derive(Clone, Copy)]
+#[derive(Clone, Copy, PartialEq, Eq, Debug)]
 pub enum Verdict {
     // The writer gives the expected word.
     Agrees(Operation),
@@ -19,25 +18,22 @@ pub enum Verdict {
         expected: Word,
         found: Word,
     },
-    // The line is no vector.
-    NoVector,
 }
 
 // Any expected NaN stands for the one word that every NaN result is.
 pub fn meant_by(expected: Word) -> Word
     ensures { result ≡ meant_by expected }
 {
-    if expected.magnitude() > Word::INFINITY.bits {
-        Word::NAN
-    } else {
-        expected
+    match expected.class() {
+        Class::Nan => Word::NAN,
+        _ => expected,
     }
 }
 
 fn verdict_on(operation: Operation, expected: Word, found: Word) -> Verdict
     ensures { result ≡ verdict_on operation expected found }
 {
-    if expected.bits == found.bits {
+    if expected == found {
         Verdict::Agrees(operation)
     } else {
         Verdict::Differs {
@@ -48,17 +44,24 @@ fn verdict_on(operation: Operation, expected: Word, found: Word) -> Verdict
     }
 }
 
-// Whether the writer gives the word that the line's vector expects.
-pub fn judge(line: &[u8]) -> Verdict
+// Whether the writer gives the word that the line's vector expects, if the line is one.
+pub fn judge(line: &[u8]) -> Option<Verdict>
     ensures { result ≡ judged line.now }
 {
-    match read_vector(line) {
-        Some(vector) => {
-            let step = vector.request;
-            let written = write_step(step.operation, step.first, step.second);
-            verdict_on(step.operation, meant_by(vector.expected), written.word)
+    let vector = read_vector(line)?;
+    let step = vector.request;
+    let written = write_step(step.operation, step.first, step.second);
+    Some(verdict_on(step.operation, meant_by(vector.expected), written.word))
+}
+
+impl Verdict {
+    // The operation of the vector.
+    pub fn operation(self) -> Operation
+        ensures { result ≡ operation_of self }
+    {
+        match self {
+            Verdict::Agrees(operation) | Verdict::Differs { operation, .. } => operation,
         }
-        None => Verdict::NoVector,
     }
 }
 
@@ -81,7 +84,6 @@ impl fmt::Display for Verdict {
                 let found = Numeral(*found);
                 write!(f, "{name}: expected {expected}, the writer gives {found}")
             }
-            Verdict::NoVector => write!(f, "no vector"),
         }
     }
 }
