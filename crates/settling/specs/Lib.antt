@@ -1,2 +1,3 @@
 pub mod Claimed
 pub mod Counts
+pub mod Texts

@@ -15,7 +15,7 @@ fn settle_claim<S: System>(system: S, step: Request, word: Word) -> Result<u64, 
     let mut sheet = OpenSheet::new(0, 0, system);
     let first = sheet.input(step.first)?;
     let second = sheet.input(step.second)?;
-    let ticket = sheet.enter(step.operation.code(), first, second, word)?;
+    let ticket = sheet.enter(step.operation.into(), first, second, word)?;
     let written = write_step(step.operation, step.first, step.second);
     sheet.settle(ticket, written.hints)
 }

@@ -1,9 +1,12 @@
 // How many claims were accepted, and how many refused.
-ghost use Rattle.std.specs.Prelude.{◌≡◌};
+ghost use Rattle.std.specs.Prelude.{◌≡◌, Some};
 ghost use Rattle.settling.specs.Counts.{no_claims, one_claim};
+ghost use Rattle.settling.specs.Texts.{claims_text};
+
+use std::fmt;
 
 // Each number stops at the end of its type.
-#[derive(Clone, Copy)]
+#[derive(Clone, Copy, PartialEq, Eq, Debug)]
 pub struct Claims {
     pub accepted: u64,
     pub refused: u64,
@@ -34,5 +37,14 @@ impl Claims {
                 ..self
             }
         }
+    }
+}
+
+impl fmt::Display for Claims {
+    ghost output = { λ claims. Some (claims_text claims) };
+
+    fn fmt<W: fmt::Write>(&self, f: &mut fmt::Formatter<W>) -> fmt::Result {
+        let Claims { accepted, refused } = *self;
+        write!(f, "{accepted} accepted, {refused} refused")
     }
 }

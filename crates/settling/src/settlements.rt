@@ -9,7 +9,7 @@ use binary32::Word;
 use systems::System;
 use writing::{Vector, meant_by};
 
-#[derive(Clone, Copy)]
+#[derive(Clone, Copy, PartialEq, Eq, Debug)]
 pub struct Settlements {
     // Claims with the word that the vector expects.
     pub expected: Claims,
@@ -41,9 +41,10 @@ impl Settlements {
         ensures { self.new ≡ settled self.old vector }
     {
         let word = meant_by(vector.expected);
-        let accepted = is_accepted(system, vector.request, word);
-        self.expected = self.expected.with(accepted);
-        let accepted = is_accepted(system, vector.request, damage(word));
-        self.damaged = self.damaged.with(accepted);
+        let request = vector.request;
+        self.expected = self.expected.with(is_accepted(system, request, word));
+        self.damaged = self
+            .damaged
+            .with(is_accepted(system, request, damage(word)));
     }
 }

@@ -16,16 +16,18 @@ use writing::{Counts, Verdict, judge, read_vector};
 const PRINTED: u64 = 20;
 
 // Prints a verdict, unless the vector agrees or enough of its kind were printed.
-fn report(rt: &HostRuntime, number: u64, verdict: Verdict, counts: &Counts) -> io::Result<()> {
-    let so_far = match verdict {
-        Verdict::Agrees(_) => return Ok(()),
-        Verdict::Differs { .. } => counts.all_differing,
-        Verdict::NoVector => counts.unread,
-    };
-    if so_far <= PRINTED {
-        println!(rt; "line {number}: {verdict}")
-    } else {
-        Ok(())
+fn report(
+    rt: &HostRuntime,
+    number: usize,
+    verdict: Option<Verdict>,
+    counts: &Counts,
+) -> io::Result<()> {
+    match verdict {
+        Some(verdict @ Verdict::Differs { .. }) if counts.all.differing <= PRINTED => {
+            println!(rt; "line {number}: {verdict}")
+        }
+        None if counts.unread <= PRINTED => println!(rt; "line {number}: no vector"),
+        _ => Ok(()),
     }
 }
 
@@ -38,48 +40,40 @@ fn report_more(rt: &HostRuntime, count: u64, what: &str) -> io::Result<()> {
 }
 
 fn summary(rt: &HostRuntime, counts: &Counts) -> io::Result<()> {
-    report_more(rt, counts.all_differing, "differ")?;
+    report_more(rt, counts.all.differing, "differ")?;
     report_more(rt, counts.unread, "are no vector")?;
-    for code in 1..9 {
-        if let Some(operation) = Operation::from_code(code) {
-            let name = name_of(operation);
-            let agree = counts.agreeing(operation);
-            let differ = counts.differing(operation);
-            println!(rt; "{name}: {agree} agree, {differ} differ")?;
-        }
+    for operation in Operation::ALL {
+        let name = name_of(operation);
+        let count = counts.of(operation);
+        println!(rt; "{name}: {count}")?;
     }
-    let agree = counts.all_agreeing;
-    let differ = counts.all_differing;
+    let all = counts.all;
     let unread = counts.unread;
-    println!(rt; "total: {agree} agree, {differ} differ, {unread} no vector")
+    println!(rt; "total: {all}, {unread} no vector")
 }
 
-fn settled(rt: &HostRuntime, system: &str, settlements: &Settlements) -> io::Result<()> {
-    let accepted = settlements.expected.accepted;
-    let refused = settlements.expected.refused;
-    println!(rt; "{system}: {accepted} accepted, {refused} refused")?;
-    let accepted = settlements.damaged.accepted;
-    let refused = settlements.damaged.refused;
-    println!(rt; "{system}, damaged: {accepted} accepted, {refused} refused")
+fn settled(rt: &HostRuntime, system: &str, settlements: Settlements) -> io::Result<()> {
+    let Settlements { expected, damaged } = settlements;
+    println!(rt; "{system}: {expected}")?;
+    println!(rt; "{system}, damaged: {damaged}")
 }
 
 fn main(rt: HostRuntime) -> io::Result<()> {
     let mut counts = Counts::new();
     let mut wrapping = Settlements::new();
     let mut pair = Settlements::new();
-    let mut number: u64 = 0;
-    for line in BufReader::new(rt.alloc(), rt.stdin())?.split(rt.alloc(), b'\n') {
+    let lines = BufReader::new(rt.alloc(), rt.stdin())?.split(rt.alloc(), b'\n');
+    for (i, line) in lines.enumerate() {
         let line = line?;
-        number = number.saturating_add(1);
         let verdict = judge(&line);
         counts.add(verdict);
-        report(&rt, number, verdict, &counts)?;
+        report(&rt, i + 1, verdict, &counts)?;
         if let Some(vector) = read_vector(&line) {
             wrapping.settle(Wrapping, vector);
             pair.settle(Pair, vector);
         }
     }
     summary(&rt, &counts)?;
-    settled(&rt, "sheets modulo 2^64", &wrapping)?;
-    settled(&rt, "sheets over the pair", &pair)
+    settled(&rt, "sheets modulo 2^64", wrapping)?;
+    settled(&rt, "sheets over the pair", pair)
 }

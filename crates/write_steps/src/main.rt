@@ -2,26 +2,25 @@
 // no step is reported by its number. The last line says how many answers there were of each kind.
 #![tactic(auto)]
 
+use notation::Fault;
 use std::io;
 use std::io::{BufRead, BufReader};
 use writing::{Answer, Tally, answer_to};
 
-fn report(rt: &HostRuntime, number: u64, answer: &Answer) -> io::Result<()> {
+fn report(rt: &HostRuntime, number: usize, answer: &Result<Answer, Fault>) -> io::Result<()> {
     match answer {
-        Answer::Written { .. } => println!(rt; "{answer}"),
-        Answer::NoStep(_) => println!(rt; "line {number}: {answer}"),
+        Ok(answer) => println!(rt; "{answer}"),
+        Err(fault) => println!(rt; "line {number}: {fault}"),
     }
 }
 
 fn main(rt: HostRuntime) -> io::Result<()> {
     let mut tally = Tally::new();
-    let mut number: u64 = 0;
-    for line in BufReader::new(rt.alloc(), rt.stdin())?.split(rt.alloc(), b'\n') {
-        let line = line?;
-        number = number.saturating_add(1);
-        let answer = answer_to(&line);
+    let lines = BufReader::new(rt.alloc(), rt.stdin())?.split(rt.alloc(), b'\n');
+    for (i, line) in lines.enumerate() {
+        let answer = answer_to(&line?);
         tally.count(&answer);
-        report(&rt, number, &answer)?;
+        report(&rt, i + 1, &answer)?;
     }
     println!(rt; "{tally}")
 }

@@ -8,18 +8,18 @@ use Rattle.settling.proofs.claim.settle_claim.Goals as goal
 pub returns-in_err-ticket : goal.returns-in_err-ticket
 returns-in_err-ticket g c =
     absurd
-    (not_refused (model_of c.new-sheet.result) (model_of c.input.new.self) (model_of c.input-2.new.self) c.args.step c.code.result
+    (not_refused (model_of c.new-sheet.result) (model_of c.input.new.self) (model_of c.input-2.new.self) c.args.step c.into.result
     c.in_ok-first.first c.in_ok-second.second
     c.new-sheet.ensures c.in_ok-first.ensures.reply c.input.ensures.after
-    c.in_ok-second.ensures.reply c.input-2.ensures.after c.code.ensures
+    c.in_ok-second.ensures.reply c.input-2.ensures.after c.into.ensures
     c.enter.result _ c.enter.ensures.reply c.in_err-ticket.was)
 
 pub returns : goal.returns
 returns g c =
-    settles (model_of c.new-sheet.result) (model_of c.input.new.self) (model_of c.input-2.new.self) c.args.step c.code.result
+    settles (model_of c.new-sheet.result) (model_of c.input.new.self) (model_of c.input-2.new.self) c.args.step c.into.result
     c.in_ok-first.first c.in_ok-second.second
     c.new-sheet.ensures c.in_ok-first.ensures.reply c.input.ensures.after
-    c.in_ok-second.ensures.reply c.input-2.ensures.after c.code.ensures
+    c.in_ok-second.ensures.reply c.input-2.ensures.after c.into.ensures
     c.args.word (model_of c.enter.new.self) c.in_ok-ticket.ticket c.write_step-written.result.hints c.settle.result
     c.enter.ensures.after c.in_ok-ticket.ensures.reply
     (ap (λ (w : Written). w.hints) c.write_step-written.ensures.value)
