@@ -18,9 +18,7 @@ use Rattle.rounding.proofs.Results.{sound_exact}
 use Rattle.hints.specs.Cases.{case_from, case_of}
 use Rattle.hints.specs.Settings.{setting_of}
 use Rattle.hints.specs.Backs.{BacksStep}
-use Rattle.hints.specs.Writer.{rounded_with, written_for, written_step, NearestWord, Right}
-use Rattle.hints.specs.declared.setting.Case.{Case}
-use Rattle.hints.specs.declared.setting.Case.TheVariants as case
+use Rattle.hints.specs.Writer.{written_for, written_case, written_step, NearestWord, Right}
 use Rattle.hints.specs.declared.writer.Written.{Written}
 use Rattle.hints.proofs.Backed.{rounded_backs}
 use Rattle.hints.proofs.Correct.{backs_result}
@@ -104,14 +102,10 @@ facts op a b r step is scheme =
 pub rounding : Rounding
 rounding = record { nearest_is = is_nearest; only_one = unique; beyond_all = overflows; kept_sizes = keeps_sizes }
 
--- the same by the case of the step
-abbrev pub written_case : Case → Written
-written_case (case.Direct w) = written_for (Direct w)
-written_case (case.Rounded σ) = rounded_with σ
-
 case_written : (s : Step) → written_case (case_from s) ≡ written_for s
 case_written (Direct w) = refl
 case_written (Rounded negative x) = refl
 
-pub case_facts : (op : Operation) (a b : ℕ) (r : Written) (c : Case) → c ≡ case_of op a b → r ≡ written_case c → Facts op a b r
-case_facts op a b r c is scheme = facts op a b r (step_of op a b) refl (scheme ∙ ap written_case is ∙ case_written (step_of op a b))
+-- together, of the record that is the case's
+pub case_facts : (op : Operation) (a b : ℕ) (r : Written) → r ≡ written_case (case_of op a b) → Facts op a b r
+case_facts op a b r scheme = facts op a b r (step_of op a b) refl (scheme ∙ case_written (step_of op a b))

@@ -5,7 +5,8 @@ use Rattle.binary32.specs.Normal.{Normalized, Ordered, Proper}
 use Rattle.binary32.specs.declared.word.NormalForm.{NormalForm}
 use Rattle.binary32.specs.declared.step.Exact.{Exact}
 use Rattle.binary32.specs.declared.step.Exact.TheVariants.{Sum, Difference, Product, Quotient, Root}
-use Rattle.hints.specs.Settings.{setting_of, alignment_of, Fit}
+use Rattle.std.proofs.Common.{false}
+use Rattle.hints.specs.Settings.{kind_of, numbers_in, setting_of, alignment_of, Fit}
 
 -- the smaller operand of a difference stays below the larger
 smaller : (x y : NormalForm) → Normalized x → Normalized y → Ordered x y → (x.exponent ≡ y.exponent → y.significand < x.significand) →
@@ -59,3 +60,18 @@ setting_fits n (Root x) proper = record {
   scaled = omega (arith, proper.bounded);
   suits = (omega arith, omega arith);
 }
+
+-- the same of a setting by its kind and its numbers
+pub figures_fit : (n : Bool) (x : Exact) → Proper x → Fit (record {
+  kind = kind_of x;
+  negative = n;
+  first = (numbers_in (setting_of false x)).0;
+  second = (numbers_in (setting_of false x)).1;
+  shift = (numbers_in (setting_of false x)).2;
+  scale = (numbers_in (setting_of false x)).3;
+})
+figures_fit n (Sum x y) = setting_fits n (Sum x y)
+figures_fit n (Difference x y) = setting_fits n (Difference x y)
+figures_fit n (Product x y) = setting_fits n (Product x y)
+figures_fit n (Quotient x y) = setting_fits n (Quotient x y)
+figures_fit n (Root x) = setting_fits n (Root x)

@@ -51,6 +51,10 @@ setting_of n (Root x) = record {
   scale = (x.exponent + 628 - radicand_shift x) / 2;
 }
 
+-- the figures that are numbers
+abbrev pub numbers_in : Figures → ℕ × ℕ × ℕ × ℕ
+numbers_in s = (s.first, s.second, s.shift, s.scale)
+
 -- what the significands of each kind of step keep
 abbrev pub Suits : Kind → ℕ → ℕ → ℕ → Type 0
 Suits kind.Sum first second shift = shift ≤ 26

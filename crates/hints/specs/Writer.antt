@@ -11,6 +11,8 @@ use Rattle.rounding.specs.Nearest.{Nearest, result}
 use Rattle.hints.specs.Backs.{BacksStep}
 use Rattle.hints.specs.Settings.{setting_of}
 use Rattle.hints.specs.Scheme.{principal_of, lift_of, exponent_of, cut_of, up_of, magnitude_from}
+use Rattle.hints.specs.declared.setting.Case.{Case}
+use Rattle.hints.specs.declared.setting.Case.TheVariants as case
 use Rattle.hints.specs.declared.setting.Setting.{Setting}
 use Rattle.hints.specs.declared.writer.Written.{Written}
 use Rattle.hints.specs.declared.refusal.Refusal.{Refusal}
@@ -40,6 +42,11 @@ rounded_with σ = from_principal σ.negative σ.scale (principal_of σ).0 (princ
 abbrev pub written_for : Step → Written
 written_for (Direct w) = record { word = w; hints = record { main = 0; rest = 0; lift = 0; keep = 0; drop = 0; up = 0 } }
 written_for (Rounded negative x) = rounded_with (setting_of negative x)
+
+-- the same by the case of the step
+abbrev pub written_case : Case → Written
+written_case (case.Direct w) = written_for (Direct w)
+written_case (case.Rounded σ) = rounded_with σ
 
 -- what the writer gives for an operation: its result, with the scheme's hints
 abbrev pub written_step : Operation → ℕ → ℕ → Written

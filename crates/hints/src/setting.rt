@@ -1,9 +1,8 @@
 // The setting of a rounded step: what its hints are reckoned from.
-ghost use Rattle.std.specs.Prelude.{◌≡◌, ◌≤◌};
-ghost use Rattle.binary32.specs.Normal.{Proper};
-ghost use Rattle.binary32.specs.Steps.{step_of};
-ghost use Rattle.hints.specs.Cases.{case_of};
-ghost use Rattle.hints.specs.Settings.{kind_of, setting_of, alignment_of, radicand_shift};
+ghost use Rattle.std.specs.Prelude.{◌≡◌, ◌≤◌, false};
+ghost use Rattle.binary32.specs.Normal.{Proper, ProperStep};
+ghost use Rattle.hints.specs.Cases.{case_from, case_of};
+ghost use Rattle.hints.specs.Settings.{kind_of, numbers_in, setting_of, alignment_of, radicand_shift};
 
 use binary32::{Exact, NormalForm, Operation, Step, Word};
 use std::marker::Model;
@@ -90,28 +89,53 @@ fn radicand_shift(x: NormalForm) -> u32
     26 + x.exponent % 2
 }
 
+// The significands of the operands, the shift and the scale.
+fn figures(exact: Exact) -> (u32, u32, u32, u32)
+    requires { Proper exact }
+    ensures { result ≡ numbers_in (setting_of false exact) }
+{
+    match exact {
+        Exact::Sum(x, y) | Exact::Difference(x, y) => (
+            x.significand,
+            y.significand,
+            alignment(x, y),
+            x.exponent + SUM_BIAS,
+        ),
+        Exact::Product(x, y) => (
+            x.significand,
+            y.significand,
+            0,
+            x.exponent + y.exponent + PRODUCT_BIAS,
+        ),
+        Exact::Quotient(x, y) => (
+            x.significand,
+            y.significand,
+            0,
+            x.exponent + QUOTIENT_BIAS - y.exponent,
+        ),
+        Exact::Root(x) => {
+            let shift = radicand_shift(x);
+            (
+                x.significand,
+                0,
+                shift,
+                (x.exponent + ROOT_BIAS - shift) / 2,
+            )
+        }
+    }
+}
+
 impl Setting {
     // The setting of an exact result.
     fn of(negative: bool, exact: Exact) -> Setting
         requires { Proper exact }
         ensures { result ≡ setting_of negative exact }
     {
-        let kind = Kind::of(exact);
-        let (x, second, shift, scale) = match exact {
-            Exact::Sum(x, y) | Exact::Difference(x, y) => {
-                (x, y.significand, alignment(x, y), x.exponent + SUM_BIAS)
-            }
-            Exact::Product(x, y) => (x, y.significand, 0, x.exponent + y.exponent + PRODUCT_BIAS),
-            Exact::Quotient(x, y) => (x, y.significand, 0, x.exponent + QUOTIENT_BIAS - y.exponent),
-            Exact::Root(x) => {
-                let shift = radicand_shift(x);
-                (x, 0, shift, (x.exponent + ROOT_BIAS - shift) / 2)
-            }
-        };
+        let (first, second, shift, scale) = figures(exact);
         Setting {
-            kind,
+            kind: Kind::of(exact),
             negative,
-            first: x.significand as u64,
+            first: first as u64,
             second: second as u64,
             shift,
             scale,
@@ -127,13 +151,22 @@ pub enum Case {
 }
 
 impl Case {
-    // The case of an operation on two words.
-    pub fn of(operation: Operation, a: Word, b: Word) -> Case
-        ensures { result ≡ case_of operation a.bits b.bits }
+    // The case of a step whose exact result, if it has one, is proper.
+    fn of_step(step: Step) -> Case
+        requires { ProperStep step }
+        ensures { result ≡ case_from step }
     {
-        match operation.apply(a, b) {
+        match step {
             Step::Direct(word) => Case::Direct(word),
             Step::Rounded { negative, exact } => Case::Rounded(Setting::of(negative, exact)),
         }
+    }
+
+    // The case of an operation on two words.
+    #[tactic(auto, using(binary32::proofs::Steps::step_proper))]
+    pub fn of(operation: Operation, a: Word, b: Word) -> Case
+        ensures { result ≡ case_of operation a.bits b.bits }
+    {
+        Case::of_step(operation.apply(a, b))
     }
 }

@@ -1,9 +1,10 @@
 // The writer: a step's word with the hints that back it.
 ghost use Rattle.std.specs.Prelude.{◌≡◌, ◌+◌, ◌-◌, ◌*◌, ◌^◌, ◌<◌, ◌≤◌, cond};
 ghost use Rattle.binary32.specs.Operations.{operation_of};
+ghost use Rattle.hints.specs.Cases.{case_of};
 ghost use Rattle.hints.specs.Hints.{listed};
 ghost use Rattle.hints.specs.Scheme.{principal_of};
-ghost use Rattle.hints.specs.Writer.{rounded_with, written_step, written, Right, RightReply};
+ghost use Rattle.hints.specs.Writer.{rounded_with, written_case, written_step, written, Right, RightReply};
 ghost use Rattle.hints.specs.Worked.{Worked};
 ghost use Rattle.rounding.specs.Laws.{Rounding};
 
@@ -128,6 +129,30 @@ fn rounded(setting: Setting) -> Written
     }
 }
 
+// The word and the hints of a case: six zeros where it is direct.
+fn written_case(case: Case) -> Written
+    ensures { result ≡ written_case case }
+{
+    match case {
+        Case::Direct(word) => Written {
+            word,
+            hints: Hints::NONE,
+        },
+        Case::Rounded(setting) => rounded(setting),
+    }
+}
+
+// The same of a case that is known to be the step's.
+fn written_for(operation: Operation, a: Word, b: Word, case: Case) -> Written
+    requires { case ≡ case_of operation a.bits b.bits }
+    ensures value { result ≡ written_step operation a.bits b.bits }
+    ensures right { Right operation a.bits b.bits result }
+    ensures rounding { Rounding }
+    ensures worked { Worked }
+{
+    written_case(case)
+}
+
 // The word of an operation on two words, with its hints: six zeros where the step is direct. It is right:
 // its hints back it, nothing else backs the step, and the word is the correctly rounded one. The last two
 // clauses speak of the definitions: the laws of the nearest word, and steps worked out by hand.
@@ -137,13 +162,7 @@ pub fn write_step(operation: Operation, a: Word, b: Word) -> Written
     ensures rounding { Rounding }
     ensures worked { Worked }
 {
-    match Case::of(operation, a, b) {
-        Case::Direct(word) => Written {
-            word,
-            hints: Hints::NONE,
-        },
-        Case::Rounded(setting) => rounded(setting),
-    }
+    written_for(operation, a, b, Case::of(operation, a, b))
 }
 
 // The same by the operation's code, which may be none.
