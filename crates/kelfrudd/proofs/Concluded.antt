@@ -1,5 +1,6 @@
 -- What is answered of a whole sheet, where nothing is too short, the rows are whole and the system is known.
-use Rattle.std.proofs.Common.{◌≡◌, ℕ, ◌/◌, ◌%◌, ◌≤◌, List, [], ◌∷◌, ◌++◌, length, drop, Ok, Err, Result, refl, arith}
+use Rattle.std.proofs.Common.{◌≡◌, ℕ, ◌/◌, ◌%◌, ◌≤◌, List, ◌++◌, length, drop, Ok, Err, Result, arith}
+use Rattle.std.proofs.lemmas.Grind.{common_steps}
 use Rattle.sheet.specs.Calls.{Model}
 use Rattle.kelfrudd.specs.Engines.{engine_of, modulus_of}
 use Rattle.kelfrudd.specs.Listed.{concluded}
@@ -9,12 +10,7 @@ use Rattle.kelfrudd.specs.declared.listed.Stop.{Stop}
 
 -- five numbers in the first places
 five_laid : (a b c d e : ℕ) (xs : List ℕ) → 5 ≤ length xs → five a b c d e ++ drop 5 xs ≡ laid_five a b c d e xs
-five_laid a b c d e [] long = absurd (omega arith)
-five_laid a b c d e (p ∷ []) long = absurd (omega arith)
-five_laid a b c d e (p ∷ q ∷ []) long = absurd (omega arith)
-five_laid a b c d e (p ∷ q ∷ r ∷ []) long = absurd (omega arith)
-five_laid a b c d e (p ∷ q ∷ r ∷ s ∷ []) long = absurd (omega arith)
-five_laid a b c d e (p ∷ q ∷ r ∷ s ∷ t ∷ xs) long = refl
+five_laid a b c d e xs long = grind (arith, common_steps)
 
 pub told_laid : (outcome : Result ℕ Stop) (rows : ℕ) (xs : List ℕ) → 5 ≤ length xs → outcome_told outcome rows ++ drop 5 xs ≡ outcome_laid outcome rows xs
 told_laid (Ok closing) rows xs long = five_laid _ _ _ _ _ xs long

@@ -26,6 +26,7 @@ pub(crate) struct Listed<'a> {
 
 impl Listed<'_> {
     // Puts every row on a new sheet, and closes it: its closing number, or why the list was stopped.
+    #[tactic(auto, using(crate::proofs::Ran::ran_none))]
     fn conclude<S: System>(self, system: S) -> Result<u64, Stop>
         ensures { result ≡ concluded S.modulus (ran_over self.entry.serial self.entry.weight self.entry.rows.now (length self.entry.rows.now)) }
     {

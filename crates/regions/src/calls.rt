@@ -33,6 +33,7 @@ fn settling(serial: u32, claim: Claim) -> OpenCall
 }
 
 // The words of the request as inputs, each claim entered and settled, and the last one's word read.
+#[tactic(auto, using(crate::proofs::Plans::seven_is), unfolding(crate::specs::Claims::calls_of))]
 fn laid_out(request: Request, serial: u32, claims: [Claim; 7]) -> [OpenCall; 20]
     ensures { result ≡ calls_of request serial claims }
 {

@@ -43,6 +43,7 @@ fn given(cell: u64, word: Word) -> Source
 }
 
 // The writer's claim for an operation.
+#[tactic(auto, unfolding(crate::specs::Claims::claimed))]
 fn backed(cell: u64, operation: Operation, first: Source, second: Source) -> Claim
     ensures { result ≡ claimed cell operation first second }
 {

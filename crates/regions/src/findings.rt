@@ -99,6 +99,7 @@ fn step_at(claim: Claim, answers: &[OpenAnswer], at: usize) -> Step
 
 // The answers to five inputs come first, then two for each claim. The seven stand by hand: nothing is known of what a closure that
 // an array's method calls has captured, from one call to the next, so a proof over such calls does not close.
+#[tactic(auto, using(crate::proofs::Plans::seven_is))]
 fn steps(claims: [Claim; 7], answers: &[OpenAnswer]) -> [Step; 7]
     ensures { result ≡ steps_from answers.now 5 claims }
 {

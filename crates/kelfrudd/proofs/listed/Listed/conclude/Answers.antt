@@ -1,14 +1,9 @@
 use Rattle.std.proofs.Common.{◌+◌, ◌≤◌, [], length, get_or, sym, ap, arith}
 use Rattle.sheet.specs.Calls.{model_of}
-use Rattle.kelfrudd.proofs.Ran.{ran_none, ran_on, ran_stopped}
+use Rattle.kelfrudd.proofs.Ran.{ran_on, ran_stopped}
 use Rattle.kelfrudd.specs.Listed.{concluded}
 use Rattle.kelfrudd.specs.Rows.{row_of}
 use Rattle.kelfrudd.proofs.listed.Listed.conclude.Goals as goal
-
-pub loop-n-init : goal.loop-n-init
-loop-n-init g c =
-    let x = c.args.self in
-    rw c.new-sheet.ensures (sym (ran_none x.serial x.weight (λ k. row_of (get_or x.rows.now k []))))
 
 pub returns-in-Err : goal.returns-in-Err
 returns-in-Err g c =
