@@ -1,11 +1,10 @@
--- An array of seven claims, element by element.
+-- An array of seven, element by element.
 use Rattle.std.proofs.Common.{◌≡◌, List, [], ◌∷◌, length, get_or, arith}
 use Rattle.std.proofs.lemmas.Grind.{common_steps}
-use Rattle.regions.specs.declared.claims.Claim.{Claim}
 
-abbrev pub seven : Claim → List Claim → List Claim
-seven d cs = get_or cs 0 d ∷ get_or cs 1 d ∷ get_or cs 2 d ∷ get_or cs 3 d ∷ get_or cs 4 d ∷ get_or cs 5 d ∷ get_or cs 6 d ∷ []
+abbrev pub seven : {X : Type 0} → X → List X → List X
+seven d xs = get_or xs 0 d ∷ get_or xs 1 d ∷ get_or xs 2 d ∷ get_or xs 3 d ∷ get_or xs 4 d ∷ get_or xs 5 d ∷ get_or xs 6 d ∷ []
 
 -- an array of seven has its seven elements
-pub seven_is : (d : Claim) (cs : List Claim) → length cs ≡ 7 → seven d cs ≡ cs
-seven_is d cs long = grind (arith, common_steps)
+pub seven_is : {X : Type 0} (d : X) (xs : List X) → length xs ≡ 7 → seven d xs ≡ xs
+seven_is d xs long = grind (arith, common_steps)

@@ -7,6 +7,7 @@ use crate::reading::Request;
 use binary32::Word;
 use runs::{ClosedAnswer, OpenAnswer, Replayed};
 use sheet::{Operand, Refusal};
+use std::array::from_fn;
 
 // What became of a claim.
 #[derive(Clone, Copy, PartialEq, Eq, Debug)]
@@ -97,22 +98,12 @@ fn step_at(claim: Claim, answers: &[OpenAnswer], at: usize) -> Step
     }
 }
 
-// The answers to five inputs come first, then two for each claim. The seven stand by hand: nothing is known of what a closure that
-// an array's method calls has captured, from one call to the next, so a proof over such calls does not close.
+// The answers to five inputs come first, then two for each claim.
 #[tactic(auto, using(crate::proofs::Plans::seven_is))]
 fn steps(claims: [Claim; 7], answers: &[OpenAnswer]) -> [Step; 7]
     ensures { result ≡ steps_from answers.now 5 claims }
 {
-    let [dx, dy, dx_squared, dy_squared, sum, root, inside] = claims;
-    [
-        step_at(dx, answers, 5),
-        step_at(dy, answers, 7),
-        step_at(dx_squared, answers, 9),
-        step_at(dy_squared, answers, 11),
-        step_at(sum, answers, 13),
-        step_at(root, answers, 15),
-        step_at(inside, answers, 17),
-    ]
+    from_fn(|n| step_at(claims[n], answers, 5 + 2 * n))
 }
 
 // What the word of the comparison says: it is 1 for yes and 0 for no.
