@@ -1,4 +1,5 @@
-// The library for other languages: steps written and checked, and whole sheets, by functions over numbers and slices alone.
+// The library for other languages: steps written and checked, and whole sheets, by functions over numbers and slices alone. C calls
+// them, so kinds and refusals are numbers at this edge, and enums within.
 #![tactic(auto)]
 
 mod checking;

@@ -26,6 +26,7 @@ fn told_of(outcome: Result<u64, Stop>, rows: u64) -> [u64; 5]
     }
 }
 
+// What stopped the list, if anything did.
 fn reply_of(outcome: Result<u64, Stop>) -> Result<(), Refusal>
     ensures { result ≡ outcome_reply outcome }
 {
@@ -35,6 +36,7 @@ fn reply_of(outcome: Result<u64, Stop>) -> Result<(), Refusal>
     }
 }
 
+// What stops a list that C hands over in numbers. The first five places of `told` say how it went.
 fn check(
     system: u32,
     serial: u32,

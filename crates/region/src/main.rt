@@ -28,6 +28,7 @@ fn show(heap: Global, serial: u32, request: Request) -> Result<Report, AllocErro
 
 fn main(rt: HostRuntime) -> io::Result<()> {
     let mut tally = Tally::new();
+    // Counted by hand: a sheet's serial has 32 bits, and the number stops at the highest, which the library's count of items does not.
     let mut number: u32 = 0;
     for line in BufReader::new(rt.alloc(), rt.stdin())?.split(rt.alloc(), b'\n') {
         let line = line?;
