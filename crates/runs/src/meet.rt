@@ -9,7 +9,7 @@ use crate::call::{ClosedCall, OpenCall};
 use sheet::{ClosedSheet, OpenSheet, Ticket};
 use systems::System;
 
-// What meets calls, one after another.
+// A sheet in one of its phases, on which calls of one type are made, one after another.
 pub(crate) trait Meets {
     type Call: Copy;
 
