@@ -33,7 +33,8 @@ impl Kind {
 // `first` and `second` are the significands of the operands, in a sum or a difference the larger
 // operand's first; a root has no second. `shift` is how far up the smaller operand of a sum stands, or
 // the radicand of a root. The exact result is the hint main, and what it leaves over, times 2^(`scale` − 400), but in a sum
-// whose exponents differ by more than 26.
+// whose exponents differ by more than 26. One record serves all kinds: an enum is no plainer, as its cases would name the same
+// numbers again, and sum and difference go one way.
 #[derive(Clone, Copy, PartialEq, Eq, Debug)]
 pub struct Setting {
     pub kind: Kind,

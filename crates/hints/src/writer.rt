@@ -155,7 +155,8 @@ fn written_for(operation: Operation, a: Word, b: Word, case: Case) -> Written
 
 // The word of an operation on two words, with its hints: six zeros where the step is direct. It is right:
 // its hints back it, nothing else backs the step, and the word is the correctly rounded one. The last two
-// clauses speak of the definitions: the laws of the nearest word, and steps worked out by hand.
+// clauses speak of the definitions: the laws of the nearest word, and steps worked out by hand. Here, in the step and in the checks
+// an operation stands beside its operands: a type for the three is no plainer, as each call would make it to be taken apart.
 pub fn write_step(operation: Operation, a: Word, b: Word) -> Written
     ensures value { result ≡ written_step operation a.bits b.bits }
     ensures right { Right operation a.bits b.bits result }

@@ -5,7 +5,7 @@ ghost use Rattle.writing.specs.Texts.{hints_text};
 use hints::Hints;
 use std::fmt;
 
-// The six hints by name, in their order.
+// The six hints by name, in their order. A wrapper, since the hints belong to a crate that writes no text.
 #[derive(Clone, Copy)]
 pub(crate) struct HintsLine(pub(crate) Hints);
 
