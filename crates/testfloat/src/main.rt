@@ -10,7 +10,7 @@ use settling::Settlements;
 use std::io;
 use std::io::{BufRead, BufReader};
 use systems::{Pair, Wrapping};
-use writing::{Counts, Verdict, judge, read_vector};
+use writing::{Counts, NoVector, Verdict, judge, read_vector};
 
 // Of the vectors that differ so many are printed, and of the lines that are no vector.
 const PRINTED: u64 = 20;
@@ -19,14 +19,14 @@ const PRINTED: u64 = 20;
 fn report(
     rt: &HostRuntime,
     number: usize,
-    verdict: Option<Verdict>,
+    verdict: Result<Verdict, NoVector>,
     counts: &Counts,
 ) -> io::Result<()> {
     match verdict {
-        Some(verdict @ Verdict::Differs { .. }) if counts.all.differing <= PRINTED => {
+        Ok(verdict @ Verdict::Differs { .. }) if counts.all.differing <= PRINTED => {
             println!(rt; "line {number}: {verdict}")
         }
-        None if counts.unread <= PRINTED => println!(rt; "line {number}: no vector"),
+        Err(none) if counts.unread <= PRINTED => println!(rt; "line {number}: {none}"),
         _ => Ok(()),
     }
 }

@@ -1,10 +1,11 @@
 -- How many answers there were of each kind, and how many vectors of each operation.
-use Rattle.std.specs.Prelude.{ℕ, ◌+◌, ◌-◌, ◌^◌, min, cond, replicate, ◌==◌, Ok, Err, Result, Some, None, Option, slice_index_or, slice_set}
+use Rattle.std.specs.Prelude.{ℕ, ◌+◌, ◌-◌, ◌^◌, min, cond, replicate, ◌==◌, Ok, Err, Result, slice_index_or, slice_set}
 use Rattle.binary32.specs.Operations.{code_of}
 use Rattle.binary32.specs.declared.operation.Operation.{Operation}
 use Rattle.writing.specs.declared.answer.Answer.{Answer}
 use Rattle.notation.specs.declared.fault.Fault.{Fault}
 use Rattle.writing.specs.declared.tally.Tally.{Tally}
+use Rattle.writing.specs.declared.verdict.NoVector.{NoVector}
 use Rattle.writing.specs.declared.verdict.Verdict.{Verdict}
 use Rattle.writing.specs.declared.verdict.Verdict.TheVariants.{Agrees, Differs}
 use Rattle.writing.specs.declared.counts.Count.{Count}
@@ -51,10 +52,10 @@ abbrev pub count_of : Counts → Operation → Count
 count_of c operation = slice_index_or c.each (place_of operation) none_judged
 
 -- a vector counts for its operation and for all, and a line that is no vector counts as unread
-abbrev pub added : Counts → Option Verdict → Counts
-added c (Some verdict) = record {
+abbrev pub added : Counts → Result Verdict NoVector → Counts
+added c (Ok verdict) = record {
   each = slice_set c.each (place_of (operation_of verdict)) (one_judged (count_of c (operation_of verdict)) verdict);
   all = one_judged c.all verdict;
   unread = c.unread;
 }
-added c None = record { each = c.each; all = c.all; unread = more c.unread }
+added c (Err _) = record { each = c.each; all = c.all; unread = more c.unread }

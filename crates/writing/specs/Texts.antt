@@ -31,5 +31,8 @@ verdict_text (Differs operation expected found) =
     name_of operation
     ++ (codes ": expected " ++ (digits_of expected.bits ++ (codes ", the writer gives " ++ digits_of found.bits)))
 
+abbrev pub no_vector_text : List ℕ
+no_vector_text = codes "no vector"
+
 abbrev pub count_text : Count → List ℕ
 count_text c = decimal c.agreeing ++ (codes " agree, " ++ (decimal c.differing ++ codes " differ"))

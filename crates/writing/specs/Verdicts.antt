@@ -9,6 +9,7 @@ use Rattle.notation.specs.Numerals.{word_of}
 use Rattle.notation.specs.declared.line.Request.{Request}
 use Rattle.notation.specs.declared.fault.Fault.{Fault}
 use Rattle.writing.specs.declared.vector.Vector.{Vector}
+use Rattle.writing.specs.declared.verdict.NoVector.{NoVector}
 use Rattle.writing.specs.declared.verdict.Verdict.{Verdict}
 use Rattle.writing.specs.declared.verdict.Verdict.TheVariants.{Agrees, Differs}
 
@@ -35,12 +36,12 @@ abbrev pub operation_of : Verdict → Operation
 operation_of (Agrees operation) = operation
 operation_of (Differs operation expected found) = operation
 
-abbrev pub verdict_of : Option Vector → Option Verdict
-verdict_of None = None
-verdict_of (Some v) = Some
+abbrev pub verdict_of : Option Vector → Result Verdict NoVector
+verdict_of None = Err (record {})
+verdict_of (Some v) = Ok
     (verdict_on v.request.operation (meant_by v.expected)
     (written_step v.request.operation v.request.first.bits v.request.second.bits).word)
 
 -- the expected word is held to the one that the writer gives; a line that is no vector has no verdict
-abbrev pub judged : List ℕ → Option Verdict
+abbrev pub judged : List ℕ → Result Verdict NoVector
 judged line = verdict_of (vector_of line)

@@ -3,7 +3,7 @@ ghost use Rattle.std.specs.Prelude.{◌≡◌, ◌<◌, Some};
 ghost use Rattle.writing.specs.Tallies.{none_judged, one_judged, nothing, place_of, count_of, added};
 ghost use Rattle.writing.specs.Texts.{count_text};
 
-use crate::verdict::Verdict;
+use crate::verdict::{NoVector, Verdict};
 use binary32::Operation;
 use std::fmt;
 
@@ -83,16 +83,16 @@ impl Counts {
     }
 
     // Counts one line more: what is said of its vector, if it is one.
-    pub fn add(&mut self, verdict: Option<Verdict>)
+    pub fn add(&mut self, verdict: Result<Verdict, NoVector>)
         ensures { self.new ≡ added self.old verdict }
     {
         match verdict {
-            Some(verdict) => {
+            Ok(verdict) => {
                 let i = place(verdict.operation());
                 self.each[i] = self.each[i].with(verdict);
                 self.all = self.all.with(verdict);
             }
-            None => self.unread = self.unread.saturating_add(1),
+            Err(NoVector) => self.unread = self.unread.saturating_add(1),
         }
     }
 

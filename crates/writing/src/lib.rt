@@ -12,4 +12,4 @@ pub use answer::{Answer, answer_to};
 pub use counts::{Count, Counts};
 pub use tally::Tally;
 pub use vector::{Vector, read_vector};
-pub use verdict::{Verdict, judge, meant_by};
+pub use verdict::{NoVector, Verdict, judge, meant_by};

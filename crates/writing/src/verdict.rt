@@ -1,6 +1,6 @@
 // Vectors held to the writer.
 ghost use Rattle.std.specs.Prelude.{◌≡◌, Some};
-ghost use Rattle.writing.specs.Texts.{verdict_text};
+ghost use Rattle.writing.specs.Texts.{verdict_text, no_vector_text};
 ghost use Rattle.writing.specs.Verdicts.{operation_of, meant_by, verdict_on, judged};
 
 use crate::vector::read_vector;
@@ -19,6 +19,10 @@ pub enum Verdict {
         found: Word,
     },
 }
+
+// The line is no vector.
+#[derive(Clone, Copy, PartialEq, Eq, Debug)]
+pub struct NoVector;
 
 // Any expected NaN stands for the one word that every NaN result is.
 pub fn meant_by(expected: Word) -> Word
@@ -45,13 +49,13 @@ fn verdict_on(operation: Operation, expected: Word, found: Word) -> Verdict
 }
 
 // Whether the writer gives the word that the line's vector expects, if the line is one.
-pub fn judge(line: &[u8]) -> Option<Verdict>
+pub fn judge(line: &[u8]) -> Result<Verdict, NoVector>
     ensures { result ≡ judged line.now }
 {
-    let vector = read_vector(line)?;
+    let vector = read_vector(line).ok_or(NoVector)?;
     let step = vector.request;
     let written = write_step(step.operation, step.first, step.second);
-    Some(verdict_on(step.operation, meant_by(vector.expected), written.word))
+    Ok(verdict_on(step.operation, meant_by(vector.expected), written.word))
 }
 
 impl Verdict {
@@ -85,5 +89,13 @@ impl fmt::Display for Verdict {
                 write!(f, "{name}: expected {expected}, the writer gives {found}")
             }
         }
+    }
+}
+
+impl fmt::Display for NoVector {
+    ghost output = { λ _. Some no_vector_text };
+
+    fn fmt<W: fmt::Write>(&self, f: &mut fmt::Formatter<W>) -> fmt::Result {
+        write!(f, "no vector")
     }
 }
