@@ -3,3 +3,4 @@ pub mod Counts
 pub mod Distances
 pub mod Findings
 pub mod Requests
+pub mod Texts

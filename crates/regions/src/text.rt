@@ -1,21 +1,30 @@
 // What is printed of a request.
+ghost use Rattle.std.specs.Prelude.{Some};
+ghost use Rattle.regions.specs.Texts.{point_text, request_text, claim_text, refusal_text, outcome_text, step_text, verdict_text, closing_text, closings_text, steps_text, agreement_text, report_text, tally_text};
+
 use crate::claims::Claim;
 use crate::count::Tally;
 use crate::findings::{Outcome, Report, Step, Verdict};
 use crate::reading::{Point, Request};
-use binary32::Operation;
+use binary32::Word;
 use checks::Flaw;
-use notation::name_of;
+use notation::{Numeral, name_of};
 use sheet::Refusal;
 use std::fmt;
 
 impl fmt::Display for Point {
+    ghost output = { λ point. Some (point_text point) };
+
     fn fmt<W: fmt::Write>(&self, f: &mut fmt::Formatter<W>) -> fmt::Result {
-        write!(f, "{:08X} {:08X}", self.x.bits, self.y.bits)
+        let x = Numeral(self.x);
+        let y = Numeral(self.y);
+        write!(f, "{x} {y}")
     }
 }
 
 impl fmt::Display for Request {
+    ghost output = { λ request. Some (request_text request) };
+
     fn fmt<W: fmt::Write>(&self, f: &mut fmt::Formatter<W>) -> fmt::Result {
         let Request {
             position,
@@ -23,68 +32,83 @@ impl fmt::Display for Request {
             radius,
             forged,
         } = *self;
-        write!(
-            f,
-            "position {position}, centre {centre}, radius {:08X}",
-            radius.bits
-        )?;
+        let radius = Numeral(radius);
         if forged {
-            write!(f, ", the root's up turned")?;
+            write!(
+                f,
+                "position {position}, centre {centre}, radius {radius}, the root's up turned"
+            )
+        } else {
+            write!(f, "position {position}, centre {centre}, radius {radius}")
         }
-        Ok(())
     }
 }
 
 // The step with its cell, the cells of its operands and its word. A root has one operand.
 impl fmt::Display for Claim {
+    ghost output = { λ claim. Some (claim_text claim) };
+
     fn fmt<W: fmt::Write>(&self, f: &mut fmt::Formatter<W>) -> fmt::Result {
         let cell = self.cell;
         let name = name_of(self.operation);
         let first = self.first;
         let second = self.second;
-        let word = self.written.word.bits;
+        let word = Numeral(self.written.word);
         if self.operation.is_root() {
-            write!(f, "cell {cell}: {name} {first} = {word:08X}")
+            write!(f, "cell {cell}: {name} {first} = {word}")
         } else {
-            write!(f, "cell {cell}: {name} {first} {second} = {word:08X}")
+            write!(f, "cell {cell}: {name} {first} {second} = {word}")
         }
     }
 }
 
 // The refusal's number and what it tells besides.
-fn write_refusal<W: fmt::Write>(refusal: Refusal, f: &mut fmt::Formatter<W>) -> fmt::Result {
-    let number = refusal.number();
-    write!(f, "refused by {number}")?;
-    match refusal {
-        Refusal::Full | Refusal::UnknownCode | Refusal::BadTicket => Ok(()),
-        Refusal::NotTaken { operand } | Refusal::NotAccepted { operand } => {
-            let operand = u32::from(operand);
-            write!(f, ", operand {operand}")
-        }
-        Refusal::Flawed { cell, flaw } => {
-            write!(f, ", cell {cell}")?;
-            match flaw {
-                Flaw::Width(hint) => {
-                    let hint = u32::from(hint);
-                    write!(f, ", hint {hint}")
-                }
-                _ => Ok(()),
+#[derive(Clone, Copy)]
+struct RefusedBy(Refusal);
+
+impl fmt::Display for RefusedBy {
+    ghost output = { λ by. Some (refusal_text by.0) };
+
+    fn fmt<W: fmt::Write>(&self, f: &mut fmt::Formatter<W>) -> fmt::Result {
+        let number = self.0.number();
+        match self.0 {
+            Refusal::Full | Refusal::UnknownCode | Refusal::BadTicket => {
+                write!(f, "refused by {number}")
             }
+            Refusal::NotTaken { operand } | Refusal::NotAccepted { operand } => {
+                let operand = u32::from(operand);
+                write!(f, "refused by {number}, operand {operand}")
+            }
+            Refusal::Flawed {
+                cell,
+                flaw: Flaw::Width(hint),
+            } => {
+                let hint = u32::from(hint);
+                write!(f, "refused by {number}, cell {cell}, hint {hint}")
+            }
+            Refusal::Flawed { cell, .. } => write!(f, "refused by {number}, cell {cell}"),
         }
     }
 }
 
 impl fmt::Display for Outcome {
+    ghost output = { λ outcome. Some (outcome_text outcome) };
+
     fn fmt<W: fmt::Write>(&self, f: &mut fmt::Formatter<W>) -> fmt::Result {
         match *self {
             Outcome::Accepted => write!(f, "accepted"),
-            Outcome::Refused(refusal) => write_refusal(refusal, f),
+            Outcome::Refused(refusal) => {
+                let by = RefusedBy(refusal);
+                write!(f, "{by}")
+            }
             Outcome::Unanswered => write!(f, "unanswered"),
         }
     }
 }
 
 impl fmt::Display for Step {
+    ghost output = { λ step. Some (step_text step) };
+
     fn fmt<W: fmt::Write>(&self, f: &mut fmt::Formatter<W>) -> fmt::Result {
         let Step { claim, outcome } = *self;
         write!(f, "{claim}, {outcome}")
@@ -92,6 +116,8 @@ impl fmt::Display for Step {
 }
 
 impl fmt::Display for Verdict {
+    ghost output = { λ verdict. Some (verdict_text verdict) };
+
     fn fmt<W: fmt::Write>(&self, f: &mut fmt::Formatter<W>) -> fmt::Result {
         match self {
             Verdict::Inside => write!(f, "inside"),
@@ -101,16 +127,79 @@ impl fmt::Display for Verdict {
     }
 }
 
-// A closing number in sixteen digits.
-fn write_closing<W: fmt::Write>(number: Option<u64>, f: &mut fmt::Formatter<W>) -> fmt::Result {
-    match number {
-        Some(number) => write!(f, "{number:016X}"),
-        None => write!(f, "none"),
+// A closing number in sixteen digits, the higher eight first.
+#[derive(Clone, Copy)]
+struct Closing(Option<u64>);
+
+impl fmt::Display for Closing {
+    ghost output = { λ closing. Some (closing_text closing.0) };
+
+    fn fmt<W: fmt::Write>(&self, f: &mut fmt::Formatter<W>) -> fmt::Result {
+        match self.0 {
+            Some(number) => {
+                let high = Numeral(Word {
+                    bits: (number >> 32) as u32,
+                });
+                let low = Numeral(Word {
+                    bits: (number % (1 << 32)) as u32,
+                });
+                write!(f, "{high}{low}")
+            }
+            None => write!(f, "none"),
+        }
+    }
+}
+
+// The steps, each on a line of its own.
+#[derive(Clone, Copy)]
+struct Lines([Step; 7]);
+
+impl fmt::Display for Lines {
+    ghost output = { λ lines. Some (steps_text lines.0) };
+
+    fn fmt<W: fmt::Write>(&self, f: &mut fmt::Formatter<W>) -> fmt::Result {
+        for step in self.0 {
+            write!(f, "\n  {step}")?;
+        }
+        Ok(())
+    }
+}
+
+// Both closing numbers.
+#[derive(Clone, Copy)]
+struct Closings([Option<u64>; 2]);
+
+impl fmt::Display for Closings {
+    ghost output = { λ closings. Some (closings_text closings.0) };
+
+    fn fmt<W: fmt::Write>(&self, f: &mut fmt::Formatter<W>) -> fmt::Result {
+        let [first, second] = self.0;
+        let first = Closing(first);
+        let second = Closing(second);
+        write!(f, "{first} and {second}")
+    }
+}
+
+// Whether both sheets gave the same answers.
+#[derive(Clone, Copy)]
+struct Agreement(bool);
+
+impl fmt::Display for Agreement {
+    ghost output = { λ agreement. Some (agreement_text agreement.0) };
+
+    fn fmt<W: fmt::Write>(&self, f: &mut fmt::Formatter<W>) -> fmt::Result {
+        if self.0 {
+            write!(f, "both sheets gave the same answers")
+        } else {
+            write!(f, "the sheets gave different answers")
+        }
     }
 }
 
 // The request, its steps, whether the sheets agree, their closing numbers and the verdict, each on a line.
 impl fmt::Display for Report {
+    ghost output = { λ report. Some (report_text report) };
+
     fn fmt<W: fmt::Write>(&self, f: &mut fmt::Formatter<W>) -> fmt::Result {
         let Report {
             request,
@@ -119,25 +208,19 @@ impl fmt::Display for Report {
             verdict,
             closings,
         } = *self;
-        writeln!(f, "{request}")?;
-        for step in steps {
-            writeln!(f, "  {step}")?;
-        }
-        let answers = if agree {
-            "both sheets gave the same answers"
-        } else {
-            "the sheets gave different answers"
-        };
-        let [first, second] = closings;
-        write!(f, "  {answers}\n  closing numbers ")?;
-        write_closing(first, f)?;
-        write!(f, " and ")?;
-        write_closing(second, f)?;
-        write!(f, "\n  {verdict}")
+        let steps = Lines(steps);
+        let agreement = Agreement(agree);
+        let closings = Closings(closings);
+        write!(
+            f,
+            "{request}{steps}\n  {agreement}\n  closing numbers {closings}\n  {verdict}"
+        )
     }
 }
 
 impl fmt::Display for Tally {
+    ghost output = { λ tally. Some (tally_text tally) };
+
     fn fmt<W: fmt::Write>(&self, f: &mut fmt::Formatter<W>) -> fmt::Result {
         let Tally {
             inside,
