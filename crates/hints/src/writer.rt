@@ -142,7 +142,8 @@ fn written_case(case: Case) -> Written
     }
 }
 
-// The same of a case that is known to be the step's.
+// The same of a case that is known to be the step's. Apart from `write_step`, whose clause `right` the check was tried on and left
+// open there, with its lemmas named.
 fn written_for(operation: Operation, a: Word, b: Word, case: Case) -> Written
     requires { case ≡ case_of operation a.bits b.bits }
     ensures value { result ≡ written_step operation a.bits b.bits }

@@ -4,6 +4,8 @@ ghost use Rattle.kelfrudd.specs.Engines.{engine_of};
 
 use crate::refusal::Refusal;
 
+// It is matched twice, where a step and where a list is run: one match for both is no plainer, as each runs a generic function of
+// its own.
 #[derive(Clone, Copy, PartialEq, Eq, Debug)]
 pub(crate) enum Engine {
     Wrapping,

@@ -28,11 +28,11 @@ fn show(heap: Global, serial: u32, request: Request) -> Result<Report, AllocErro
 
 fn main(rt: HostRuntime) -> io::Result<()> {
     let mut tally = Tally::new();
-    // Counted by hand: a sheet's serial has 32 bits, and the number stops at the highest, which the library's count of items does not.
-    let mut number: u32 = 0;
-    for line in BufReader::new(rt.alloc(), rt.stdin())?.split(rt.alloc(), b'\n') {
+    let lines = BufReader::new(rt.alloc(), rt.stdin())?.split(rt.alloc(), b'\n');
+    for (i, line) in lines.enumerate() {
         let line = line?;
-        number = number.saturating_add(1);
+        // The number is the sheet's serial too, which has 32 bits and stops at the highest.
+        let number = u32::try_from(i + 1).unwrap_or(u32::MAX);
         match read_request(&line) {
             Ok(request) => {
                 let report = show(rt.alloc(), number, request)?;

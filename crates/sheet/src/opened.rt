@@ -51,8 +51,8 @@ impl<S: System> OpenSheet<S> {
     }
 
     // Takes a cell for a claim: that the operation with this code, on the words of two cells, has this word. The ticket is what
-    // the claim is settled or struck with. The four are no struct: it would be taken apart here at once, since the cell holds
-    // the operation and not the code.
+    // the claim is settled or struck with. By a rule any code may be presented, and is refused in its turn. The four are no
+    // struct: it would be taken apart here at once, since the cell holds the operation and not the code.
     pub fn enter(
         &mut self,
         code: u32,

@@ -34,6 +34,7 @@ impl Ticket {
         Ticket { serial, cell }
     }
 
+    // No `From`: by a rule a ticket is spent by settling, striking or handing in alone.
     pub(crate) fn spend(self) -> Stub
         ensures { ticket_of result ≡ self }
     {
