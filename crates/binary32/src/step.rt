@@ -129,7 +129,8 @@ fn rank(w: Word) -> u32
     }
 }
 
-// How two words stand by value: a NaN in no order, and the two zeros as equals.
+// How two words stand by value: a NaN in no order, and the two zeros as equals. It is no `PartialOrd`, which would have to agree
+// with `==`, and that goes by bits.
 fn order(a: Word, b: Word) -> Option<Ordering>
     ensures { result ≡ order_of a.bits b.bits }
 {

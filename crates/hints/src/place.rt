@@ -29,8 +29,8 @@ impl Cut {
         ensures exponent { result.exponent ≡ exponent_of scale lift }
         ensures place { result.k ≡ cut_of scale lift }
     {
-        let exponent = (scale as u64).saturating_sub(TO_EXPONENT + lift as u64);
-        let k = (exponent + TO_PLACE + lift as u64 - scale as u64).min(HIGHEST);
+        let exponent = u64::from(scale).saturating_sub(TO_EXPONENT + u64::from(lift));
+        let k = (exponent + TO_PLACE + u64::from(lift) - u64::from(scale)).min(HIGHEST);
         Cut {
             exponent,
             k: k as u32,

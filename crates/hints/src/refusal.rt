@@ -15,6 +15,7 @@ pub enum Layer {
     Word,
 }
 
+// One case, told of as those of the other parts are: by a number and a layer.
 #[derive(Clone, Copy, PartialEq, Eq, Debug)]
 pub enum Refusal {
     // The code is none of an operation.

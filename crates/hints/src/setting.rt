@@ -17,6 +17,7 @@ pub enum Kind {
 }
 
 impl Kind {
+    // No `From`, which would be public: nobody else asks.
     fn of(exact: Exact) -> Kind
         ensures { result ≡ kind_of exact }
     {
@@ -45,7 +46,8 @@ pub struct Setting {
     pub scale: u32,
 }
 
-// Contracts see a setting as its figures, which keep the bounds of its kind of step.
+// Contracts see a setting as its figures, which keep the bounds of its kind of step. By a model and not by ghost fields: with those
+// each definition that makes a setting would have to carry the proof.
 impl Model for Setting {
     ghost use Rattle.hints.specs.Settings.{Figures};
 
@@ -136,8 +138,8 @@ impl Setting {
         Setting {
             kind: Kind::of(exact),
             negative,
-            first: first as u64,
-            second: second as u64,
+            first: u64::from(first),
+            second: u64::from(second),
             shift,
             scale,
         }

@@ -9,7 +9,8 @@ use crate::reader::Reader;
 use binary32::{Operation, Word};
 use std::fmt;
 
-// An operation on words. The second word of a square root is zero.
+// An operation on words. The second word of a square root is zero, as an operation takes two words and a root does not look at
+// its second: an `Option` is no plainer, since every user would fill it.
 #[derive(Clone, Copy, PartialEq, Eq, Debug)]
 pub struct Request {
     pub operation: Operation,

@@ -5,7 +5,7 @@ ghost use Rattle.notation.specs.Names.{name_of, operation_named};
 
 use binary32::Operation;
 
-// The name of an operation, by which it is found again.
+// The name of an operation, by which it is found again. A function, since `Operation` belongs to a crate that knows no text.
 pub fn name_of(operation: Operation) -> &'static str
     ensures name { result.now ≡ name_of operation }
     ensures found { operation_named result.now ≡ Some operation }

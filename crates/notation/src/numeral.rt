@@ -55,7 +55,8 @@ pub fn digits(word: Word) -> [u8; 8]
     array::from_fn(|i| capital((word.bits >> (28 - 4 * i)) % 16))
 }
 
-// A word as its eight digits.
+// A word as its eight digits. By `digits`, so that what is printed is what is read back: the library tells of `{:08X}` how it pads,
+// and a proof that the two agree is no plainer.
 #[derive(Clone, Copy, PartialEq, Eq, Debug)]
 pub struct Numeral(pub Word);
 

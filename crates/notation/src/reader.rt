@@ -116,6 +116,7 @@ impl<'a> Reader<'a> {
         ensures after { OnOk result (self.new ≡ past 9 self.old) }
         ensures unmoved { OnErr result (self.new ≡ self.old) }
     {
+        // Copied by hand, since a type with a model and a lifetime cannot be `Copy`.
         let mut ahead = Reader {
             line: self.line,
             at: self.at,

@@ -9,7 +9,7 @@ use hints::{Hints, Written, write_step};
 
 // A cell and the word that it holds once it is accepted.
 #[derive(Clone, Copy, PartialEq, Eq, Debug)]
-pub struct Source {
+pub(crate) struct Source {
     pub cell: u64,
     pub word: Word,
 }

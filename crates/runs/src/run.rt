@@ -13,7 +13,8 @@ use std::alloc::{AllocError, Global};
 use systems::System;
 
 // The calls on a sheet that is opened with this serial and weight: those while it is open, then, unless there is `None`, the
-// close and the calls on the closed sheet.
+// close and the calls on the closed sheet. Clauses read the slices as they stand behind their references: a type that is copied and
+// has a lifetime can have no model.
 #[derive(Clone, Copy)]
 pub struct Run<'a> {
     pub serial: u32,

@@ -5,7 +5,8 @@ ghost use Rattle.settling.specs.Texts.{claims_text};
 
 use std::fmt;
 
-// Each number stops at the end of its type.
+// Each number stops at the end of its type. `writing` counts vectors by a type of its own: what rises and what is printed differ, and
+// one type for both would lose the names.
 #[derive(Clone, Copy, PartialEq, Eq, Debug)]
 pub struct Claims {
     pub accepted: u64,

@@ -69,10 +69,7 @@ pub(crate) fn word_in(state: State) -> Result<Word, Refusal>
 pub(crate) fn word_or_zero(state: State) -> Word
     ensures { result ≡ word_or_zero state }
 {
-    match state {
-        State::Input(word) | State::Accepted(word) => word,
-        _ => Word::ZERO,
-    }
+    word_in(state).unwrap_or(Word::ZERO)
 }
 
 // Settles a claim for `word`: the cell has the word where no check failed, and is struck where one did.

@@ -3,7 +3,7 @@ ghost use Rattle.std.specs.Prelude.{◌≡◌, ℕ, ◌%◌, [], ◌∷◌};
 ghost use Rattle.sheet.specs.Closing.{words_of, fold_from, closing_number};
 ghost use Rattle.sheet.specs.Tables.{standing_of};
 
-use crate::cell::State;
+use crate::cell::{State, word_in};
 use crate::table::Table;
 use binary32::Word;
 use systems::System;
@@ -28,9 +28,9 @@ fn with_cell<S: System>(
 ) -> S::Element
     ensures { (w n : ℕ) → S.remainder weight ≡ w % S.modulus → S.remainder total ≡ n % S.modulus → S.remainder result ≡ fold_from w n (words_of state) % S.modulus }
 {
-    match state {
-        State::Input(word) | State::Accepted(word) => with_word(system, weight, total, word),
-        _ => total,
+    match word_in(state) {
+        Ok(word) => with_word(system, weight, total, word),
+        Err(_) => total,
     }
 }
 

@@ -47,7 +47,7 @@ impl From<UnknownCode> for Refusal {
 }
 
 // What a refusal tells besides its number: a number that it is about, and for a hint a second one. Where
-// there is none, it is 0.
+// there is none, it is 0, as the rules lay it out for callers in C.
 #[derive(Clone, Copy, PartialEq, Eq, Debug)]
 pub struct Values {
     pub first: u64,

@@ -26,7 +26,7 @@ fn report(
         Ok(verdict @ Verdict::Differs { .. }) if counts.all.differing <= PRINTED => {
             println!(rt; "line {number}: {verdict}")
         }
-        Err(none) if counts.unread <= PRINTED => println!(rt; "line {number}: {none}"),
+        Err(no_vector) if counts.unread <= PRINTED => println!(rt; "line {number}: {no_vector}"),
         _ => Ok(()),
     }
 }
@@ -44,7 +44,7 @@ fn summary(rt: &HostRuntime, counts: &Counts) -> io::Result<()> {
     report_more(rt, counts.unread, "are no vector")?;
     for operation in Operation::ALL {
         let name = name_of(operation);
-        let count = counts.of(operation);
+        let count = counts.count_of(operation);
         println!(rt; "{name}: {count}")?;
     }
     let all = counts.all;

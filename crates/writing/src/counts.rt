@@ -97,7 +97,7 @@ impl Counts {
     }
 
     // How many vectors of the operation agree, and how many differ.
-    pub fn of(&self, operation: Operation) -> Count
+    pub fn count_of(&self, operation: Operation) -> Count
         ensures { result ≡ count_of self.now operation }
     {
         self.each[place(operation)]

@@ -1,12 +1,13 @@
-use Rattle.std.proofs.Common.{◌%◌, sym, ap, ◌∙◌, inl, inr}
-use Rattle.sheet.specs.Closing.{fold_from, words_of}
+use Rattle.std.proofs.Common.{sym, ◌∙◌}
+use Rattle.sheet.proofs.Folds.{words_read}
 use Rattle.sheet.proofs.closing.with_cell.Goals as goal
 
-pub returns-in-Input : goal.returns-in-Input
-returns-in-Input g c w n weight_is total_is =
-    let m = g.S.System.modulus in
-    let added = c.with_word.ensures w n weight_is total_is in
-    elim c.in-Input.is [
-      | inl is ↦ added ∙ ap (λ s. fold_from w n (words_of s) % m) (sym is)
-      | inr is ↦ added ∙ ap (λ s. fold_from w n (words_of s) % m) (sym is)
-    ]
+pub returns-in-Ok : goal.returns-in-Ok
+returns-in-Ok g c w n weight_is total_is =
+    let words = words_read c.args.state _ (sym c.in-Ok.is ∙ c.word_in.ensures) in
+    rw words (c.with_word.ensures w n weight_is total_is)
+
+pub returns-in-Err : goal.returns-in-Err
+returns-in-Err g c w n weight_is total_is =
+    let words = words_read c.args.state _ (sym c.in-Err.is ∙ c.word_in.ensures) in
+    rw words total_is
