@@ -62,7 +62,8 @@ impl fmt::Display for Claim {
     }
 }
 
-// The refusal's number and what it tells besides.
+// The refusal's number and what it tells besides. This type and the four below carry the text of what has none of its own: another
+// crate's refusal, an option, arrays and a test.
 #[derive(Clone, Copy)]
 struct RefusedBy(Refusal);
 
@@ -127,7 +128,8 @@ impl fmt::Display for Verdict {
     }
 }
 
-// A closing number in sixteen digits, the higher eight first.
+// A closing number in sixteen digits, the higher eight first: in halves, so that one definition of digits serves. The library tells
+// of `{:016X}` how it pads, which is no plainer.
 #[derive(Clone, Copy)]
 struct Closing(Option<u64>);
 
