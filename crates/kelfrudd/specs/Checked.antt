@@ -6,7 +6,7 @@ use Rattle.checks.specs.Examined.{Outcome, examined}
 use Rattle.hints.specs.declared.refusal.Refusal.TheVariants.{UnknownCode}
 use Rattle.hints.specs.declared.writer.Hints.{Hints}
 use Rattle.kelfrudd.specs.Engines.{engine_of}
-use Rattle.kelfrudd.specs.Refusals.{Reply, number_in, values_of}
+use Rattle.kelfrudd.specs.Refusals.{Reply, number_told, values_of}
 use Rattle.kelfrudd.specs.declared.engine.Engine.{Engine}
 use Rattle.kelfrudd.specs.declared.refusal.Refusal.{Refusal}
 use Rattle.kelfrudd.specs.declared.refusal.Refusal.TheVariants.{TooShort, UnknownSystem, Writer, Claim}
@@ -52,7 +52,7 @@ abbrev pub checked_reply : ℕ → ℕ → Option Reply → Reply
 checked_reply places hints found = cond (too_few places hints) (Err TooShort) (reply_found found)
 
 abbrev pub checked_number : ℕ → ℕ → Option Reply → ℕ
-checked_number places hints found = number_in (checked_reply places hints found)
+checked_number places hints found = number_told (checked_reply places hints found)
 
 -- the hint that is outside its width, or 0
 abbrev pub hint_named : Reply → ℕ

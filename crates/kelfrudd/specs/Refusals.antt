@@ -35,6 +35,6 @@ abbrev pub Reply : Type 0
 Reply = Result (Unit {0}) Refusal
 
 -- 0 where nothing is refused
-abbrev pub number_in : Reply → ℕ
-number_in (Ok _) = 0
-number_in (Err r) = number_of r
+abbrev pub number_told : Reply → ℕ
+number_told (Ok _) = 0
+number_told (Err r) = number_of r

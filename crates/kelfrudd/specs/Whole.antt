@@ -3,7 +3,7 @@ use Rattle.std.specs.Prelude.{ℕ, ◌/◌, ◌%◌, cond, List, [], ◌∷◌, 
 use Rattle.sheet.specs.Calls.{Model}
 use Rattle.kelfrudd.specs.Engines.{engine_of, modulus_of}
 use Rattle.kelfrudd.specs.Listed.{concluded}
-use Rattle.kelfrudd.specs.Refusals.{Reply, number_of, number_in, values_of}
+use Rattle.kelfrudd.specs.Refusals.{Reply, number_of, number_told, values_of}
 use Rattle.kelfrudd.specs.declared.engine.Engine.{Engine}
 use Rattle.kelfrudd.specs.declared.listed.Stop.{Stop}
 use Rattle.kelfrudd.specs.declared.refusal.Refusal.{Refusal}
@@ -48,7 +48,7 @@ abbrev pub sheet_reply : ℕ → ℕ → Option (Result ℕ Stop) → Reply
 sheet_reply places numbers outcome = cond (nat_lt places 5) (Err TooShort) (cond (numbers % 10 == 0) (reply_in outcome) (Err NoWholeRows))
 
 abbrev pub sheet_number : ℕ → ℕ → Option (Result ℕ Stop) → ℕ
-sheet_number places numbers outcome = number_in (sheet_reply places numbers outcome)
+sheet_number places numbers outcome = number_told (sheet_reply places numbers outcome)
 
 abbrev pub sheet_places : List ℕ → ℕ → Option (Result ℕ Stop) → List ℕ
 sheet_places xs numbers outcome = cond (nat_lt (length xs) 5) xs (cond (numbers % 10 == 0) (laid_in outcome (numbers / 10) xs) xs)

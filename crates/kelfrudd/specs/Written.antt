@@ -2,7 +2,7 @@
 use Rattle.std.specs.Prelude.{ℕ, cond, List, [], ◌∷◌, length, Ok, Err, Result, nat_lt, slice_set}
 use Rattle.hints.specs.declared.refusal.Refusal as writer
 use Rattle.hints.specs.declared.writer.Written.{Written}
-use Rattle.kelfrudd.specs.Refusals.{Reply, number_in}
+use Rattle.kelfrudd.specs.Refusals.{Reply, number_told}
 use Rattle.kelfrudd.specs.declared.refusal.Refusal.TheVariants.{TooShort, Writer}
 
 -- the word and the six hints
@@ -15,16 +15,16 @@ laid w xs =
     slice_set (slice_set (slice_set (slice_set (slice_set (slice_set (slice_set xs 0 w.word.bits) 1 w.hints.main) 2 w.hints.rest) 3 w.hints.lift)
     4 w.hints.keep) 5 w.hints.drop) 6 w.hints.up
 
-abbrev pub reply_of : Result Written writer.Refusal → Reply
-reply_of (Ok w) = Ok tt
-reply_of (Err r) = Err (Writer r)
+abbrev pub reply_written : Result Written writer.Refusal → Reply
+reply_written (Ok w) = Ok tt
+reply_written (Err r) = Err (Writer r)
 
 -- too short where there are fewer than seven places
 abbrev pub written_reply : ℕ → Result Written writer.Refusal → Reply
-written_reply places reply = cond (nat_lt places 7) (Err TooShort) (reply_of reply)
+written_reply places reply = cond (nat_lt places 7) (Err TooShort) (reply_written reply)
 
 abbrev pub written_number : ℕ → Result Written writer.Refusal → ℕ
-written_number places reply = number_in (written_reply places reply)
+written_number places reply = number_told (written_reply places reply)
 
 abbrev pub laid_reply : Result Written writer.Refusal → List ℕ → List ℕ
 laid_reply (Ok w) xs = laid w xs

@@ -4,7 +4,7 @@ ghost use Rattle.binary32.specs.Operations.{operation_of};
 ghost use Rattle.kelfrudd.specs.Checked.{hints_in, checked_by, checked_in, checked_reply, checked_number, checked_places, hint_named};
 
 use crate::engine::Engine;
-use crate::refusal::{Refusal, number_in};
+use crate::refusal::{Refusal, number_told};
 use binary32::{Operation, Word};
 use checks::examine;
 use hints::{Hints, Written};
@@ -95,7 +95,7 @@ pub fn check_step(
     ensures reply { result ≡ checked_number (length named.old) (length hints.now) (checked_in system (checked_by (operation_of code) first second (record { bits = claimed }) (hints_in hints.now))) }
     ensures after { named.new ≡ checked_places named.old (length hints.now) (checked_in system (checked_by (operation_of code) first second (record { bits = claimed }) (hints_in hints.now))) }
 {
-    number_in(check(
+    number_told(check(
         system,
         code,
         Word { bits: first },

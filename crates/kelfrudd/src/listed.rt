@@ -32,12 +32,10 @@ impl Listed<'_> {
     {
         let mut sheet = OpenSheet::new(self.serial, self.weight, system);
         for (n, numbers) in self.rows.iter().enumerate() {
-            if let Err(refusal) = take_row(&mut sheet, *numbers) {
-                return Err(Stop {
-                    passed: n as u64,
-                    refusal,
-                });
-            }
+            take_row(&mut sheet, *numbers).map_err(|refusal| Stop {
+                passed: n as u64,
+                refusal,
+            })?;
         }
         Ok(sheet.close().closing_number())
     }

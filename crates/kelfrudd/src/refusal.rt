@@ -1,6 +1,6 @@
 // Why a function over numbers refuses, and the number that is answered for it.
 ghost use Rattle.std.specs.Prelude.{◌≡◌, Ok, Err};
-ghost use Rattle.kelfrudd.specs.Refusals.{number_of, values_of, number_in};
+ghost use Rattle.kelfrudd.specs.Refusals.{number_of, values_of, number_told};
 ghost use Rattle.hints.specs.declared.refusal.Refusal.TheVariants.{UnknownCode};
 ghost use Rattle.kelfrudd.specs.declared.refusal.Refusal.TheVariants.{Writer, Claim, Sheet};
 
@@ -92,8 +92,8 @@ impl Refusal {
 }
 
 // What a caller of another language gets: 0 where nothing is refused, and else the refusal's number.
-pub(crate) fn number_in(reply: Result<(), Refusal>) -> u32
-    ensures { result ≡ number_in reply }
+pub(crate) fn number_told(reply: Result<(), Refusal>) -> u32
+    ensures { result ≡ number_told reply }
 {
     match reply {
         Ok(()) => 0,

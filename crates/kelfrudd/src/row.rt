@@ -40,9 +40,7 @@ impl TryFrom<[u64; 10]> for Row {
     // A word above 32 bits makes no row.
     fn try_from(numbers: [u64; 10]) -> Result<Row, Refusal> {
         let [code, first, second, word, main, rest, lift, keep, drop, up] = numbers;
-        let Ok(bits) = u32::try_from(word) else {
-            return Err(Refusal::WideWord);
-        };
+        let bits = u32::try_from(word).map_err(|_| Refusal::WideWord)?;
         let word = Word { bits };
         if code == 0 {
             return Ok(Row::Input(word));

@@ -1,14 +1,14 @@
 // A whole sheet over numbers and slices.
 ghost use Rattle.std.specs.Prelude.{◌≡◌, ◌∷◌, [], ◌/◌, length};
 ghost use Rattle.kelfrudd.specs.Listed.{ran_to};
-ghost use Rattle.kelfrudd.specs.Whole.{concluded_in, outcome_told, outcome_reply, sheet_reply, sheet_number, sheet_places};
+ghost use Rattle.kelfrudd.specs.Whole.{concluded_in, outcome_told, sheet_reply, sheet_number, sheet_places};
 
 use crate::engine::Engine;
 use crate::listed::{Listed, Stop};
-use crate::refusal::{Refusal, number_in};
+use crate::refusal::{Refusal, number_told};
 
 // A number, how many rows passed, what a refusal tells besides in two numbers, and the closing number.
-fn told_of(outcome: Result<u64, Stop>, rows: u64) -> [u64; 5]
+fn five_of(outcome: Result<u64, Stop>, rows: u64) -> [u64; 5]
     ensures { result ≡ outcome_told outcome rows }
 {
     match outcome {
@@ -23,16 +23,6 @@ fn told_of(outcome: Result<u64, Stop>, rows: u64) -> [u64; 5]
                 0,
             ]
         }
-    }
-}
-
-// What stopped the list, if anything did.
-fn reply_of(outcome: Result<u64, Stop>) -> Result<(), Refusal>
-    ensures { result ≡ outcome_reply outcome }
-{
-    match outcome {
-        Ok(_) => Ok(()),
-        Err(stop) => Err(stop.refusal),
     }
 }
 
@@ -59,8 +49,8 @@ fn check(
         rows,
     };
     let outcome = listed.conclude_in(engine);
-    *places = told_of(outcome, rows.len() as u64);
-    reply_of(outcome)
+    *places = five_of(outcome, rows.len() as u64);
+    outcome.map(|_| ()).map_err(|stop| stop.refusal)
 }
 
 // Puts a list of rows, ten numbers each, on a new sheet over the system with this number, and stops at the first that does not pass; a list
@@ -70,5 +60,5 @@ pub fn check_sheet(system: u32, serial: u32, weight: u64, numbers: &[u64], told:
     ensures reply { result ≡ sheet_number (length told.old) (length numbers.now) (concluded_in system (ran_to serial weight numbers.now (length numbers.now / 10))) }
     ensures after { told.new ≡ sheet_places told.old (length numbers.now) (concluded_in system (ran_to serial weight numbers.now (length numbers.now / 10))) }
 {
-    number_in(check(system, serial, weight, numbers, told))
+    number_told(check(system, serial, weight, numbers, told))
 }

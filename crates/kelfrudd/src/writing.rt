@@ -3,7 +3,7 @@ ghost use Rattle.std.specs.Prelude.{◌≡◌, length};
 ghost use Rattle.hints.specs.Writer.{written};
 ghost use Rattle.kelfrudd.specs.Written.{seven, written_reply, written_number, written_places};
 
-use crate::refusal::{Refusal, number_in};
+use crate::refusal::{Refusal, number_told};
 use binary32::Word;
 use hints::{Written, write_word};
 
@@ -33,5 +33,5 @@ pub fn write_step(code: u32, first: u32, second: u32, out: &mut [u64]) -> u32
     ensures reply { result ≡ written_number (length out.old) (written code first second) }
     ensures after { out.new ≡ written_places (written code first second) out.old }
 {
-    number_in(write(code, Word { bits: first }, Word { bits: second }, out))
+    number_told(write(code, Word { bits: first }, Word { bits: second }, out))
 }

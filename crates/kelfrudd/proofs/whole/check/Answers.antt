@@ -1,6 +1,7 @@
 use Rattle.std.proofs.Common.{◌≡◌, ◌≤◌, ◌/◌, ◌%◌, length, Ok, sym, ◌∙◌, arith}
 use Rattle.kelfrudd.specs.Engines.{engine_of}
 use Rattle.kelfrudd.specs.Listed.{ran_over, ran_to}
+use Rattle.kelfrudd.specs.Whole.{outcome_reply}
 use Rattle.kelfrudd.proofs.Chunks.{ran_chunks}
 use Rattle.kelfrudd.proofs.Concluded.{sheet_reply_is, sheet_places_are, told_laid}
 use Rattle.kelfrudd.proofs.whole.check.Goals as goal
@@ -16,9 +17,10 @@ returns c =
     let known : engine_of x.system ≡ Ok engine = grind arith in
     let ran : ran_over x.serial x.weight rows (length rows) ≡ ran_to x.serial x.weight x.numbers.now (count / 10) =
     ran_chunks x.serial x.weight x.numbers.now rows c.as_chunks.ensures.front c.as_chunks.ensures.front_len in
+    let reply : c.map_err.result ≡ outcome_reply c.conclude_in-outcome.result = grind arith in
     record {
-      reply = rw (c.reply_of.ensures, c.conclude_in-outcome.ensures, ran) (sym (sheet_reply_is x.told.now count x.system engine _ long whole known));
+      reply = rw (reply, c.conclude_in-outcome.ensures, ran) (sym (sheet_reply_is x.told.now count x.system engine _ long whole known));
       after =
-          rw (c.told_of.ensures, c.conclude_in-outcome.ensures, ran, c.as_chunks.ensures.front_len)
+          rw (c.five_of.ensures, c.conclude_in-outcome.ensures, ran, c.as_chunks.ensures.front_len)
           (told_laid _ _ x.told.now long ∙ sym (sheet_places_are x.told.now count x.system engine _ long whole known));
     }
