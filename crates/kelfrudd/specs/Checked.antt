@@ -3,10 +3,12 @@ use Rattle.std.specs.Prelude.{ℕ, Bool, cond, ◌||◌, List, length, Some, Non
 use Rattle.binary32.specs.declared.operation.Operation.{Operation}
 use Rattle.binary32.specs.declared.word.Word.{Word}
 use Rattle.checks.specs.Examined.{Outcome, examined}
+use Rattle.checks.specs.declared.flaw.Flaw.TheVariants.{Width}
+use Rattle.hints.specs.Hints.{number_of}
 use Rattle.hints.specs.declared.refusal.Refusal.TheVariants.{UnknownCode}
 use Rattle.hints.specs.declared.writer.Hints.{Hints}
 use Rattle.kelfrudd.specs.Engines.{engine_of}
-use Rattle.kelfrudd.specs.Refusals.{Reply, number_told, values_of}
+use Rattle.kelfrudd.specs.Refusals.{Reply, number_told}
 use Rattle.kelfrudd.specs.declared.engine.Engine.{Engine}
 use Rattle.kelfrudd.specs.declared.refusal.Refusal.{Refusal}
 use Rattle.kelfrudd.specs.declared.refusal.Refusal.TheVariants.{TooShort, UnknownSystem, Writer, Claim}
@@ -56,8 +58,8 @@ checked_number places hints found = number_told (checked_reply places hints foun
 
 -- the hint that is outside its width, or 0
 abbrev pub hint_named : Reply → ℕ
-hint_named (Ok _) = 0
-hint_named (Err r) = (values_of r).first
+hint_named (Err (Claim (Width hint))) = number_of hint
+hint_named _ = 0
 
 abbrev pub hint_placed : List ℕ → Option Reply → List ℕ
 hint_placed xs None = xs

@@ -6,7 +6,7 @@ ghost use Rattle.kelfrudd.specs.Checked.{hints_in, checked_by, checked_in, check
 use crate::engine::Engine;
 use crate::refusal::{Refusal, number_told};
 use binary32::{Operation, Word};
-use checks::examine;
+use checks::{Flaw, examine};
 use hints::{Hints, Written};
 use systems::{Pair, System, Wrapping};
 
@@ -45,8 +45,8 @@ fn hint_named(found: Result<(), Refusal>) -> u64
     ensures { result ≡ hint_named found }
 {
     match found {
-        Ok(()) => 0,
-        Err(refusal) => refusal.values().first,
+        Err(Refusal::Claim(Flaw::Width(hint))) => u64::from(u32::from(hint)),
+        _ => 0,
     }
 }
 

@@ -83,10 +83,16 @@ impl Refusal {
                 first: u64::from(u32::from(hint)),
                 second: 0,
             },
-            _ => Values {
-                first: 0,
-                second: 0,
-            },
+            Refusal::TooShort
+            | Refusal::NoWholeRows
+            | Refusal::UnknownSystem
+            | Refusal::WideWord
+            | Refusal::Writer(hints::Refusal::UnknownCode)
+            | Refusal::Claim(Flaw::FirstEquation | Flaw::SecondEquation | Flaw::Up | Flaw::Word) =>
+                Values {
+                    first: 0,
+                    second: 0,
+                },
         }
     }
 }
