@@ -1,6 +1,5 @@
 // A row of a list: ten numbers that say what is put on a sheet.
 ghost use Rattle.std.specs.Prelude.{◌≡◌};
-ghost use Rattle.sheet.specs.Calls.{model_of};
 ghost use Rattle.kelfrudd.specs.Rows.{code_from, row_of, claim_reply, claim_after, row_reply, row_after, taken_reply, taken_after};
 
 use crate::refusal::Refusal;
@@ -58,8 +57,8 @@ impl TryFrom<[u64; 10]> for Row {
 impl Claim {
     // A claim is entered, and settled at once.
     fn put_on<S: System>(self, sheet: &mut OpenSheet<S>) -> Result<u64, sheet::Refusal>
-        ensures reply { result ≡ claim_reply (model_of sheet.old) self }
-        ensures after { model_of sheet.new ≡ claim_after (model_of sheet.old) self }
+        ensures reply { result ≡ claim_reply sheet.old self }
+        ensures after { sheet.new ≡ claim_after sheet.old self }
     {
         let ticket = sheet.enter(self.code, self.first, self.second, self.written.word)?;
         sheet.settle(ticket, self.written.hints)
@@ -69,8 +68,8 @@ impl Claim {
 impl Row {
     // Puts the row on a sheet, and gives its cell.
     fn put_on<S: System>(self, sheet: &mut OpenSheet<S>) -> Result<u64, sheet::Refusal>
-        ensures reply { result ≡ row_reply (model_of sheet.old) self }
-        ensures after { model_of sheet.new ≡ row_after (model_of sheet.old) self }
+        ensures reply { result ≡ row_reply sheet.old self }
+        ensures after { sheet.new ≡ row_after sheet.old self }
     {
         match self {
             Row::Input(word) => sheet.input(word),
@@ -84,8 +83,8 @@ pub(crate) fn take_row<S: System>(
     sheet: &mut OpenSheet<S>,
     numbers: [u64; 10],
 ) -> Result<u64, Refusal>
-    ensures reply { result ≡ taken_reply (model_of sheet.old) (row_of numbers) }
-    ensures after { model_of sheet.new ≡ taken_after (model_of sheet.old) (row_of numbers) }
+    ensures reply { result ≡ taken_reply sheet.old (row_of numbers) }
+    ensures after { sheet.new ≡ taken_after sheet.old (row_of numbers) }
 {
     let row = Row::try_from(numbers)?;
     Ok(row.put_on(sheet)?)

@@ -1,6 +1,6 @@
 // One call, made on a sheet.
 ghost use Rattle.std.specs.Prelude.{◌≡◌};
-ghost use Rattle.sheet.specs.Calls.{Model, model_of, cells_of, close_after, opened};
+ghost use Rattle.sheet.specs.Calls.{Model, cells_of, close_after, opened};
 ghost use Rattle.runs.specs.Replies.{open_reply, closed_reply};
 ghost use Rattle.runs.specs.Sheets.{open_after};
 
@@ -39,7 +39,7 @@ pub(crate) struct Attended<S: System> {
 
 impl<S: System> Attended<S> {
     pub(crate) fn new(serial: u32, weight: u64, system: S) -> Self
-        ensures { model_of result.sheet ≡ opened serial weight }
+        ensures { result.sheet ≡ opened serial weight }
     {
         Attended {
             sheet: OpenSheet::new(serial, weight, system),
@@ -48,7 +48,7 @@ impl<S: System> Attended<S> {
     }
 
     pub(crate) fn close(self) -> ClosedSheet<S>
-        ensures { model_of result ≡ close_after (model_of self.sheet) }
+        ensures { result ≡ close_after self.sheet }
     {
         let Attended { sheet, .. } = self;
         sheet.close()
@@ -60,7 +60,7 @@ impl<S: System> Meets for Attended<S> {
 
     type Answer = OpenAnswer;
 
-    ghost model = { λ attended. model_of attended.sheet };
+    ghost model = { λ attended. attended.sheet };
 
     ghost reply = { λ m call. open_reply m.serial (cells_of m) call };
 
@@ -93,7 +93,7 @@ impl<S: System> Meets for ClosedSheet<S> {
 
     type Answer = ClosedAnswer;
 
-    ghost model = { model_of };
+    ghost model = { λ sheet. sheet };
 
     ghost reply = { λ m call. closed_reply S.modulus m.weight (cells_of m) call };
 

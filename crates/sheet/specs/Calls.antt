@@ -10,21 +10,16 @@ use Rattle.sheet.specs.Operands.{claim_checked}
 use Rattle.sheet.specs.Tables.{Standing, empty_table, standing_of, with_state, has_room, grown, closed_table}
 use Rattle.sheet.specs.declared.cell.State.{State}
 use Rattle.sheet.specs.declared.cell.State.TheVariants.{Free, Input, Pending, Accepted, Struck}
-use Rattle.sheet.specs.declared.phase.Sheet.{Sheet}
 use Rattle.sheet.specs.declared.refusal.Refusal.{Refusal}
 use Rattle.sheet.specs.declared.refusal.Refusal.TheVariants as refusal
 use Rattle.sheet.specs.declared.table.Table.{Table}
 use Rattle.sheet.specs.declared.ticket.Ticket.{Ticket}
 
--- a sheet, without the system that its claims are examined in
+-- a sheet, open or closed, without the system that its claims are examined in
 pub record Model : Type 0 where
   pub serial : ℕ
   pub weight : ℕ
   pub table : Table
-
--- the same of an open sheet and of a closed one
-abbrev pub model_of : {S P E : Type 0} → Sheet S P E → Model
-model_of sheet = record { serial = sheet.serial; weight = sheet.weight; table = sheet.table }
 
 abbrev pub cells_of : Model → Standing
 cells_of m = standing_of m.table

@@ -1,6 +1,6 @@
 // A closed sheet: its cells are read, and nothing alters it.
 ghost use Rattle.std.specs.Prelude.{◌≡◌};
-ghost use Rattle.sheet.specs.Calls.{cells_of, model_of};
+ghost use Rattle.sheet.specs.Calls.{cells_of};
 ghost use Rattle.sheet.specs.Closing.{closing_number};
 ghost use Rattle.sheet.specs.Tickets.{ticket_of};
 
@@ -12,7 +12,7 @@ use systems::System;
 impl<S: System> ClosedSheet<S> {
     // From 0, for each accepted cell in order of its number: times the weight, plus the word, in the sheet's system.
     pub fn closing_number(&self) -> u64
-        ensures { result ≡ closing_number S.modulus self.now.weight (cells_of (model_of self.now)) }
+        ensures { result ≡ closing_number S.modulus self.now.weight (cells_of self.now) }
     {
         fold_words(&self.system, self.weight, &self.table)
     }

@@ -1,6 +1,6 @@
 // An open sheet: words are put in, claims entered, settled and struck.
 ghost use Rattle.std.specs.Prelude.{◌≡◌};
-ghost use Rattle.sheet.specs.Calls.{found as found_in, model_of, cells_of, opened, input_reply, input_after, enter_reply, enter_after, presented, answer_of, settle_reply, settle_after, strike_reply, strike_after, close_after};
+ghost use Rattle.sheet.specs.Calls.{found as found_in, cells_of, opened, input_reply, input_after, enter_reply, enter_after, presented, answer_of, settle_reply, settle_after, strike_reply, strike_after, close_after};
 ghost use Rattle.sheet.specs.Right.{Refused, Right};
 ghost use Rattle.sheet.specs.Tickets.{ticket_of};
 
@@ -27,7 +27,7 @@ fn answer(cell: u64, found: Result<(), Flaw>) -> Result<u64, Refusal>
 impl<S: System> OpenSheet<S> {
     // A sheet of which no cell is taken. Tickets for it have its serial.
     pub fn new(serial: u32, weight: u64, system: S) -> Self
-        ensures { model_of result ≡ opened serial weight }
+        ensures { result ≡ opened serial weight }
     {
         Sheet {
             system,
@@ -40,8 +40,8 @@ impl<S: System> OpenSheet<S> {
 
     // Takes a cell for a word that is given, and returns the cell's number.
     pub fn input(&mut self, word: Word) -> Result<u64, Refusal>
-        ensures reply { result ≡ input_reply (cells_of (model_of self.old)) }
-        ensures after { model_of self.new ≡ input_after (model_of self.old) word }
+        ensures reply { result ≡ input_reply (cells_of self.old) }
+        ensures after { self.new ≡ input_after self.old word }
     {
         if self.table.has_room() {
             Ok(self.table.take(State::Input(word)))
@@ -60,8 +60,8 @@ impl<S: System> OpenSheet<S> {
         second: u64,
         word: Word,
     ) -> Result<Ticket, Refusal>
-        ensures reply { result ≡ enter_reply self.old.serial (cells_of (model_of self.old)) code first second }
-        ensures after { model_of self.new ≡ enter_after (model_of self.old) code first second word }
+        ensures reply { result ≡ enter_reply self.old.serial (cells_of self.old) code first second }
+        ensures after { self.new ≡ enter_after self.old code first second word }
     {
         let operation = allow(&self.table, code, first, second)?;
         let cell = self.table.take(State::Pending {
@@ -75,7 +75,7 @@ impl<S: System> OpenSheet<S> {
 
     // The state of the cell that a ticket names.
     fn presented(&self, stub: Stub) -> State
-        ensures { result ≡ presented self.now.serial (cells_of (model_of self.now)) (ticket_of stub) }
+        ensures { result ≡ presented self.now.serial (cells_of self.now) (ticket_of stub) }
     {
         if stub.serial == self.serial {
             self.table.state(stub.cell)
@@ -93,7 +93,7 @@ impl<S: System> OpenSheet<S> {
         second: u64,
         claimed: Written,
     ) -> Result<(), Flaw>
-        ensures { result ≡ found_in (cells_of (model_of self.now)) operation first second claimed.word claimed.hints }
+        ensures { result ≡ found_in (cells_of self.now) operation first second claimed.word claimed.hints }
     {
         let a = first_word(&self.table, first);
         let b = second_word(&self.table, operation, second);
@@ -101,8 +101,8 @@ impl<S: System> OpenSheet<S> {
     }
 
     fn settle_stub(&mut self, stub: Stub, hints: Hints) -> Result<u64, Refusal>
-        ensures reply { result ≡ settle_reply self.old.serial (cells_of (model_of self.old)) (ticket_of stub) hints }
-        ensures after { model_of self.new ≡ settle_after (model_of self.old) (ticket_of stub) hints }
+        ensures reply { result ≡ settle_reply self.old.serial (cells_of self.old) (ticket_of stub) hints }
+        ensures after { self.new ≡ settle_after self.old (ticket_of stub) hints }
     {
         match self.presented(stub) {
             State::Pending {
@@ -122,20 +122,20 @@ impl<S: System> OpenSheet<S> {
 
     // Examines a pending claim. It is accepted with its word where no check fails, and struck where one does. It is accepted just
     // where its word and its hints are what the writer gives.
-    #[tactic(auto, using(crate::proofs::Found::refused_reply))]
+    #[tactic(auto, using(crate::proofs::Found::refused_reply, crate::proofs::Found::right_reply))]
     pub fn settle(&mut self, ticket: Ticket, hints: Hints) -> Result<u64, Refusal>
-        ensures reply { result ≡ settle_reply self.old.serial (cells_of (model_of self.old)) ticket hints }
-        ensures after { model_of self.new ≡ settle_after (model_of self.old) ticket hints }
-        ensures right { Right (model_of self.old) ticket hints result }
-        ensures refused { Refused (model_of self.old) ticket result (model_of self.new) }
+        ensures reply { result ≡ settle_reply self.old.serial (cells_of self.old) ticket hints }
+        ensures after { self.new ≡ settle_after self.old ticket hints }
+        ensures right { Right self.old ticket hints result }
+        ensures refused { Refused self.old ticket result self.new }
     {
         self.settle_stub(ticket.spend(), hints)
     }
 
     // Gives a pending claim up.
     pub fn strike(&mut self, ticket: Ticket) -> Result<u64, Refusal>
-        ensures reply { result ≡ strike_reply self.old.serial (cells_of (model_of self.old)) ticket }
-        ensures after { model_of self.new ≡ strike_after (model_of self.old) ticket }
+        ensures reply { result ≡ strike_reply self.old.serial (cells_of self.old) ticket }
+        ensures after { self.new ≡ strike_after self.old ticket }
     {
         let stub = ticket.spend();
         match self.presented(stub) {
@@ -149,7 +149,7 @@ impl<S: System> OpenSheet<S> {
 
     // Ends the entering and settling of claims, and strikes those that are pending.
     pub fn close(self) -> ClosedSheet<S>
-        ensures { model_of result ≡ close_after (model_of self) }
+        ensures { result ≡ close_after self }
     {
         let Sheet {
             system,

@@ -1,6 +1,6 @@
 use Rattle.std.proofs.Common.{◌≡◌, vec_items, sym, ap, ◌∙◌}
 use Rattle.std.specs.Option.{option_map}
-use Rattle.sheet.specs.Calls.{close_after, model_of, opened}
+use Rattle.sheet.specs.Calls.{close_after, opened}
 use Rattle.runs.proofs.Replays.{later_answers_lem}
 use Rattle.runs.specs.Met.{after_all, later_answers}
 use Rattle.runs.proofs.run.answers_on.Goals.{in-Some, in_default}
@@ -12,12 +12,12 @@ returns-clause-closed g c =
     let calls = x.run.opened.now in
     let m = opened x.run.serial x.run.weight in
     let modulus = g.S.System.modulus in
-    let after : model_of c.meet_all.new.sheet.sheet ≡ after_all m calls
+    let after : c.meet_all.new.sheet.sheet ≡ after_all m calls
     = c.meet_all.ensures.after ∙ ap (λ k. after_all k calls) c.new-sheet.ensures in
     elim c.match-run.branch [
       | in-Some w ↦
           ap vec_items w.closed-is
-          ∙ later_answers_lem modulus (after_all m calls) (model_of w.close.result) w.in-Some.calls.now (option_map (λ x. x.now) x.run.closed)
+          ∙ later_answers_lem modulus (after_all m calls) w.close.result w.in-Some.calls.now (option_map (λ x. x.now) x.run.closed)
           (vec_items w.meet_all-in-Some.new.answers) (vec_items x.room.closed)
           w.meet_all-in-Some.ensures.items c.requires.none_closed (w.close.ensures ∙ ap close_after after) (ap (option_map (λ x. x.now)) w.in-Some.is)
       | in_default w ↦

@@ -1,6 +1,5 @@
 use Rattle.std.proofs.Common.{ap}
 use Rattle.hints.specs.declared.writer.Written.{Written}
-use Rattle.sheet.specs.Calls.{model_of}
 use Rattle.settling.proofs.Decided.{not_refused, settles}
 use Rattle.settling.proofs.claim.settle_claim.Goals as goal
 
@@ -8,7 +7,7 @@ use Rattle.settling.proofs.claim.settle_claim.Goals as goal
 pub returns-in_err-ticket : goal.returns-in_err-ticket
 returns-in_err-ticket g c =
     absurd
-    (not_refused (model_of c.new-sheet.result) (model_of c.input.new.self) (model_of c.input-2.new.self) c.args.step c.into.result
+    (not_refused c.new-sheet.result c.input.new.self c.input-2.new.self c.args.step c.into.result
     c.in_ok-first.first c.in_ok-second.second
     c.new-sheet.ensures c.in_ok-first.ensures.reply c.input.ensures.after
     c.in_ok-second.ensures.reply c.input-2.ensures.after c.into.ensures
@@ -16,11 +15,11 @@ returns-in_err-ticket g c =
 
 pub returns : goal.returns
 returns g c =
-    settles (model_of c.new-sheet.result) (model_of c.input.new.self) (model_of c.input-2.new.self) c.args.step c.into.result
+    settles c.new-sheet.result c.input.new.self c.input-2.new.self c.args.step c.into.result
     c.in_ok-first.first c.in_ok-second.second
     c.new-sheet.ensures c.in_ok-first.ensures.reply c.input.ensures.after
     c.in_ok-second.ensures.reply c.input-2.ensures.after c.into.ensures
-    c.args.word (model_of c.enter.new.self) c.in_ok-ticket.ticket c.write_step-written.result.hints c.settle.result
+    c.args.word c.enter.new.self c.in_ok-ticket.ticket c.write_step-written.result.hints c.settle.result
     c.enter.ensures.after c.in_ok-ticket.ensures.reply
     (ap (λ (w : Written). w.hints) c.write_step-written.ensures.value)
     c.settle.ensures.reply c.settle.ensures.right
