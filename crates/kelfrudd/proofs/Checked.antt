@@ -1,13 +1,13 @@
 -- What is answered of a claim, where nothing is too short and the system is known.
 use Rattle.std.proofs.Common.{◌≡◌, ℕ, ◌≤◌, List, length, cond, false, Ok, set, ap, ◌∙◌, arith}
 use Rattle.kelfrudd.specs.Checked.{checked_in, checked_reply, checked_places, hint_named, found_by, too_few, reply_found}
-use Rattle.kelfrudd.specs.Engines.{engine_of}
+use Rattle.kelfrudd.specs.SystemNames.{system_named}
 use Rattle.kelfrudd.specs.Refusals.{Reply}
-use Rattle.kelfrudd.specs.declared.engine.Engine.{Engine}
+use Rattle.kelfrudd.specs.declared.system_name.SystemName.{SystemName}
 use Rattle.kelfrudd.specs.declared.refusal.Refusal.TheVariants.{TooShort}
 use Rattle.std.specs.Prelude.{Err}
 
-module _ (places : List ℕ) (hints system : ℕ) (engine : Engine) (found : Reply) (place : 1 ≤ length places) (six : 6 ≤ hints) (known : engine_of system ≡ Ok engine) where
+module _ (places : List ℕ) (hints system : ℕ) (name : SystemName) (found : Reply) (place : 1 ≤ length places) (six : 6 ≤ hints) (known : system_named system ≡ Ok name) where
   enough : too_few (length places) hints ≡ false
   enough = grind arith
 

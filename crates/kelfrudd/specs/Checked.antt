@@ -7,9 +7,9 @@ use Rattle.checks.specs.declared.flaw.Flaw.TheVariants.{Width}
 use Rattle.hints.specs.Hints.{number_of}
 use Rattle.hints.specs.declared.refusal.Refusal.TheVariants.{UnknownCode}
 use Rattle.hints.specs.declared.writer.Hints.{Hints}
-use Rattle.kelfrudd.specs.Engines.{engine_of}
+use Rattle.kelfrudd.specs.SystemNames.{system_named}
 use Rattle.kelfrudd.specs.Refusals.{Reply, number_told}
-use Rattle.kelfrudd.specs.declared.engine.Engine.{Engine}
+use Rattle.kelfrudd.specs.declared.system_name.SystemName.{SystemName}
 use Rattle.kelfrudd.specs.declared.refusal.Refusal.{Refusal}
 use Rattle.kelfrudd.specs.declared.refusal.Refusal.TheVariants.{TooShort, UnknownSystem, Writer, Claim}
 
@@ -35,12 +35,12 @@ checked_by None a b claimed h = Err (Writer UnknownCode)
 checked_by (Some op) a b claimed h = reply_of (examined op a b (record { word = claimed; hints = h }))
 
 -- every system finds the same
-abbrev pub found_by : Result Engine Refusal → Reply → Option Reply
-found_by (Ok engine) found = Some found
+abbrev pub found_by : Result SystemName Refusal → Reply → Option Reply
+found_by (Ok name) found = Some found
 found_by (Err r) found = None
 
 abbrev pub checked_in : ℕ → Reply → Option Reply
-checked_in system found = found_by (engine_of system) found
+checked_in system found = found_by (system_named system) found
 
 -- six hints are needed, and a place to name one
 abbrev pub too_few : ℕ → ℕ → Bool

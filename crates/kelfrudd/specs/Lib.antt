@@ -1,7 +1,7 @@
 pub mod Checked
-pub mod Engines
 pub mod Listed
 pub mod Refusals
 pub mod Rows
+pub mod SystemNames
 pub mod Whole
 pub mod Written

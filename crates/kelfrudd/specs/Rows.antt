@@ -5,7 +5,7 @@ use Rattle.sheet.specs.declared.refusal.Refusal as sheet
 use Rattle.sheet.specs.declared.ticket.Ticket.{Ticket}
 use Rattle.kelfrudd.specs.declared.refusal.Refusal.{Refusal}
 use Rattle.kelfrudd.specs.declared.refusal.Refusal.TheVariants.{WideWord, Sheet}
-use Rattle.kelfrudd.specs.declared.row.Claim.{Claim}
+use Rattle.kelfrudd.specs.declared.claim.Claim.{Claim}
 use Rattle.kelfrudd.specs.declared.row.Row.{Row}
 use Rattle.kelfrudd.specs.declared.row.Row.TheVariants as row
 
@@ -14,7 +14,7 @@ abbrev pub code_from : ℕ → ℕ
 code_from number = min number 0xFFFFFFFF
 
 -- the code, the two cells, the word and the six hints
-abbrev pub claim_from : List ℕ → Claim
+abbrev pub claim_from : List ℕ → Claim ℕ
 claim_from numbers = record {
   code = code_from (slice_index numbers 0);
   first = slice_index numbers 1;
@@ -50,24 +50,24 @@ row_at xs n = row_of (ten_at xs n)
 
 -- a claim is entered; the ticket is settled at once
 
-abbrev pub claim_entered : Model → Claim → Result Ticket sheet.Refusal
+abbrev pub claim_entered : Model → Claim ℕ → Result Ticket sheet.Refusal
 claim_entered m claim = enter_reply m.serial (cells_of m) claim.code claim.first claim.second
 
-abbrev pub pending_model : Model → Claim → Model
+abbrev pub pending_model : Model → Claim ℕ → Model
 pending_model m claim = enter_after m claim.code claim.first claim.second claim.written.word
 
-abbrev pub settled_reply : Model → Claim → Result Ticket sheet.Refusal → Result ℕ sheet.Refusal
+abbrev pub settled_reply : Model → Claim ℕ → Result Ticket sheet.Refusal → Result ℕ sheet.Refusal
 settled_reply m claim (Ok ticket) = settle_reply m.serial (cells_of m) ticket claim.written.hints
 settled_reply m claim (Err r) = Err r
 
-abbrev pub settled_model : Model → Claim → Result Ticket sheet.Refusal → Model
+abbrev pub settled_model : Model → Claim ℕ → Result Ticket sheet.Refusal → Model
 settled_model m claim (Ok ticket) = settle_after m ticket claim.written.hints
 settled_model m claim (Err r) = m
 
-abbrev pub claim_reply : Model → Claim → Result ℕ sheet.Refusal
+abbrev pub claim_reply : Model → Claim ℕ → Result ℕ sheet.Refusal
 claim_reply m claim = settled_reply (pending_model m claim) claim (claim_entered m claim)
 
-abbrev pub claim_after : Model → Claim → Model
+abbrev pub claim_after : Model → Claim ℕ → Model
 claim_after m claim = settled_model (pending_model m claim) claim (claim_entered m claim)
 
 abbrev pub row_reply : Model → Row → Result ℕ sheet.Refusal

@@ -1,20 +1,20 @@
 -- What is answered of a whole sheet.
 use Rattle.std.specs.Prelude.{ℕ, ◌/◌, ◌%◌, cond, List, [], ◌∷◌, length, Some, None, Ok, Err, Option, Result, ◌==◌, nat_lt, slice_set}
 use Rattle.sheet.specs.Calls.{Model}
-use Rattle.kelfrudd.specs.Engines.{engine_of, modulus_of}
+use Rattle.kelfrudd.specs.SystemNames.{system_named, modulus_of}
 use Rattle.kelfrudd.specs.Listed.{concluded}
 use Rattle.kelfrudd.specs.Refusals.{Reply, number_of, number_told, values_of}
-use Rattle.kelfrudd.specs.declared.engine.Engine.{Engine}
+use Rattle.kelfrudd.specs.declared.system_name.SystemName.{SystemName}
 use Rattle.kelfrudd.specs.declared.listed.Stop.{Stop}
 use Rattle.kelfrudd.specs.declared.refusal.Refusal.{Refusal}
 use Rattle.kelfrudd.specs.declared.refusal.Refusal.TheVariants.{TooShort, NoWholeRows, UnknownSystem}
 
-abbrev pub concluded_by : Result Engine Refusal → Result Model Stop → Option (Result ℕ Stop)
-concluded_by (Ok engine) ran = Some (concluded (modulus_of engine) ran)
+abbrev pub concluded_by : Result SystemName Refusal → Result Model Stop → Option (Result ℕ Stop)
+concluded_by (Ok name) ran = Some (concluded (modulus_of name) ran)
 concluded_by (Err r) ran = None
 
 abbrev pub concluded_in : ℕ → Result Model Stop → Option (Result ℕ Stop)
-concluded_in system ran = concluded_by (engine_of system) ran
+concluded_in system ran = concluded_by (system_named system) ran
 
 abbrev pub outcome_reply : Result ℕ Stop → Reply
 outcome_reply (Ok closing) = Ok tt

@@ -3,23 +3,15 @@ ghost use Rattle.std.specs.Prelude.{◌≡◌, length};
 ghost use Rattle.binary32.specs.Operations.{operation_of};
 ghost use Rattle.kelfrudd.specs.Checked.{hints_in, checked_by, checked_in, checked_reply, checked_number, checked_places, hint_named};
 
-use crate::engine::Engine;
+use crate::claim::Claim;
 use crate::refusal::{Refusal, number_told};
+use crate::system_name::SystemName;
 use binary32::{Operation, Word};
 use checks::{Flaw, examine};
 use hints::{Hints, Written};
 use systems::{Pair, System, Wrapping};
 
-// That the operation with this code, on two words, has a word that the hints back.
-#[derive(Clone, Copy)]
-struct Claim {
-    code: u32,
-    first: Word,
-    second: Word,
-    written: Written,
-}
-
-impl Claim {
+impl Claim<Word> {
     // Nothing, where the claim is what the writer gives.
     fn check<S: System>(self, system: &S) -> Result<(), Refusal>
         ensures { result ≡ checked_by (operation_of self.code) self.first.bits self.second.bits self.written.word self.written.hints }
@@ -30,12 +22,12 @@ impl Claim {
     }
 
     // The same in a system that is named.
-    fn check_in(self, engine: Engine) -> Result<(), Refusal>
+    fn check_in(self, name: SystemName) -> Result<(), Refusal>
         ensures { result ≡ checked_by (operation_of self.code) self.first.bits self.second.bits self.written.word self.written.hints }
     {
-        match engine {
-            Engine::Wrapping => self.check(&Wrapping),
-            Engine::Pair => self.check(&Pair),
+        match name {
+            SystemName::Wrapping => self.check(&Wrapping),
+            SystemName::Pair => self.check(&Pair),
         }
     }
 }
@@ -65,7 +57,7 @@ fn check(
 {
     let place = named.first_mut().ok_or(Refusal::TooShort)?;
     let hints = hints.first_chunk::<6>().ok_or(Refusal::TooShort)?;
-    let engine = Engine::try_from(system)?;
+    let name = SystemName::try_from(system)?;
     let claim = Claim {
         code,
         first,
@@ -75,7 +67,7 @@ fn check(
             hints: Hints::from(*hints),
         },
     };
-    let found = claim.check_in(engine);
+    let found = claim.check_in(name);
     *place = hint_named(found);
     found
 }

@@ -1,11 +1,11 @@
 // A list of rows, put on a sheet one after the other.
 ghost use Rattle.std.specs.Prelude.{◌≡◌, length};
-ghost use Rattle.kelfrudd.specs.Engines.{modulus_of};
+ghost use Rattle.kelfrudd.specs.SystemNames.{modulus_of};
 ghost use Rattle.kelfrudd.specs.Listed.{ran_over, concluded};
 
-use crate::engine::Engine;
 use crate::refusal::Refusal;
 use crate::row::take_row;
+use crate::system_name::SystemName;
 use sheet::OpenSheet;
 use systems::{Pair, System, Wrapping};
 
@@ -17,7 +17,7 @@ pub(crate) struct Stop {
 }
 
 // Rows of ten numbers, and what a sheet for them is opened with.
-#[derive(Clone, Copy)]
+#[derive(Clone, Copy, PartialEq, Eq, Debug)]
 pub(crate) struct Listed<'a> {
     pub(crate) serial: u32,
     pub(crate) weight: u64,
@@ -41,12 +41,12 @@ impl Listed<'_> {
     }
 
     // The same in a system that is named.
-    pub(crate) fn conclude_in(self, engine: Engine) -> Result<u64, Stop>
-        ensures { result ≡ concluded (modulus_of engine) (ran_over self.entry.serial self.entry.weight self.entry.rows.now (length self.entry.rows.now)) }
+    pub(crate) fn conclude_in(self, name: SystemName) -> Result<u64, Stop>
+        ensures { result ≡ concluded (modulus_of name) (ran_over self.entry.serial self.entry.weight self.entry.rows.now (length self.entry.rows.now)) }
     {
-        match engine {
-            Engine::Wrapping => self.conclude(Wrapping),
-            Engine::Pair => self.conclude(Pair),
+        match name {
+            SystemName::Wrapping => self.conclude(Wrapping),
+            SystemName::Pair => self.conclude(Pair),
         }
     }
 }

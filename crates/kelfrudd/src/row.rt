@@ -2,26 +2,18 @@
 ghost use Rattle.std.specs.Prelude.{◌≡◌};
 ghost use Rattle.kelfrudd.specs.Rows.{code_from, row_of, claim_reply, claim_after, row_reply, row_after, taken_reply, taken_after};
 
+use crate::claim::Claim;
 use crate::refusal::Refusal;
 use binary32::Word;
 use hints::{Hints, Written};
 use sheet::OpenSheet;
 use systems::System;
 
-// That the operation with this code, on the words of two cells, has a word that the hints back.
-#[derive(Clone, Copy)]
-pub(crate) struct Claim {
-    code: u32,
-    first: u64,
-    second: u64,
-    written: Written,
-}
-
 // An input has the code 0, and only its word is looked at. Any other row is a claim.
-#[derive(Clone, Copy)]
+#[derive(Clone, Copy, PartialEq, Eq, Debug)]
 pub(crate) enum Row {
     Input(Word),
-    Claim(Claim),
+    Claim(Claim<u64>),
 }
 
 // A code above 32 bits is none of an operation, and neither is the one that stands in for it.
@@ -54,7 +46,7 @@ impl TryFrom<[u64; 10]> for Row {
     }
 }
 
-impl Claim {
+impl Claim<u64> {
     // A claim is entered, and settled at once.
     fn put_on<S: System>(self, sheet: &mut OpenSheet<S>) -> Result<u64, sheet::Refusal>
         ensures reply { result ≡ claim_reply sheet.old self }

@@ -3,9 +3,9 @@ ghost use Rattle.std.specs.Prelude.{◌≡◌, ◌∷◌, [], ◌/◌, length};
 ghost use Rattle.kelfrudd.specs.Listed.{ran_to};
 ghost use Rattle.kelfrudd.specs.Whole.{concluded_in, outcome_told, sheet_reply, sheet_number, sheet_places};
 
-use crate::engine::Engine;
 use crate::listed::{Listed, Stop};
 use crate::refusal::{Refusal, number_told};
+use crate::system_name::SystemName;
 
 // A number, how many rows passed, what a refusal tells besides in two numbers, and the closing number.
 fn five_of(outcome: Result<u64, Stop>, rows: u64) -> [u64; 5]
@@ -42,13 +42,13 @@ fn check(
     if !rest.is_empty() {
         return Err(Refusal::NoWholeRows);
     }
-    let engine = Engine::try_from(system)?;
+    let name = SystemName::try_from(system)?;
     let listed = Listed {
         serial,
         weight,
         rows,
     };
-    let outcome = listed.conclude_in(engine);
+    let outcome = listed.conclude_in(name);
     *places = five_of(outcome, rows.len() as u64);
     outcome.map(|_| ()).map_err(|stop| stop.refusal)
 }

@@ -1,5 +1,5 @@
 use Rattle.std.proofs.Common.{◌≡◌, ◌≤◌, ◌/◌, ◌%◌, length, Ok, sym, ◌∙◌, arith}
-use Rattle.kelfrudd.specs.Engines.{engine_of}
+use Rattle.kelfrudd.specs.SystemNames.{system_named}
 use Rattle.kelfrudd.specs.Listed.{ran_over, ran_to}
 use Rattle.kelfrudd.specs.Whole.{outcome_reply}
 use Rattle.kelfrudd.proofs.Chunks.{ran_chunks}
@@ -11,16 +11,16 @@ returns c =
     let x = c.args in
     let rows = c.as_chunks.result.0.now in
     let count = length x.numbers.now in
-    let engine = c.in_ok-engine.engine in
+    let name = c.in_ok-name.name in
     let long : 5 ≤ length x.told.now = grind arith in
     let whole : count % 10 ≡ 0 = grind arith in
-    let known : engine_of x.system ≡ Ok engine = grind arith in
+    let known : system_named x.system ≡ Ok name = grind arith in
     let ran : ran_over x.serial x.weight rows (length rows) ≡ ran_to x.serial x.weight x.numbers.now (count / 10) =
     ran_chunks x.serial x.weight x.numbers.now rows c.as_chunks.ensures.front c.as_chunks.ensures.front_len in
     let reply : c.map_err.result ≡ outcome_reply c.conclude_in-outcome.result = grind arith in
     record {
-      reply = rw (reply, c.conclude_in-outcome.ensures, ran) (sym (sheet_reply_is x.told.now count x.system engine _ long whole known));
+      reply = rw (reply, c.conclude_in-outcome.ensures, ran) (sym (sheet_reply_is x.told.now count x.system name _ long whole known));
       after =
           rw (c.five_of.ensures, c.conclude_in-outcome.ensures, ran, c.as_chunks.ensures.front_len)
-          (told_laid _ _ x.told.now long ∙ sym (sheet_places_are x.told.now count x.system engine _ long whole known));
+          (told_laid _ _ x.told.now long ∙ sym (sheet_places_are x.told.now count x.system name _ long whole known));
     }
