@@ -42,7 +42,7 @@ fn hint_named(found: Result<(), Refusal>) -> u64
     }
 }
 
-// What is found in a claim that C hands over in numbers. The first place of `named` gets the hint.
+// What is found in a claim that is handed over in numbers. The first place of `named` gets the hint.
 fn check(
     system: u32,
     code: u32,

@@ -26,7 +26,7 @@ fn five_of(outcome: Result<u64, Stop>, rows: u64) -> [u64; 5]
     }
 }
 
-// What stops a list that C hands over in numbers. The first five places of `told` say how it went.
+// What stops a list that is handed over in numbers. The first five places of `told` say how it went.
 fn check(
     system: u32,
     serial: u32,
