@@ -108,9 +108,6 @@ module _ (m0 m1 m2 : Model) (step : Request) (code first second : ℕ)
       ∙ ap (λ n. enter_reply 0 (cells_of inputs) (code_of op) 0 n) second_is
       ∙ allowed op step.first step.second
 
-  pub not_refused : (r : Result Ticket Refusal) (e : Refusal) → r ≡ enter_reply m2.serial (cells_of m2) code first second → r ≡ Err e → ⊥
-  not_refused r e is was = let same : Err e ≡ Ok ticket = sym was ∙ entered r is in let z : ◌≡◌ {A = ℕ} 0 1 = cc in omega arith
-
   entered_after : (word : Word) → enter_after m2 code first second word ≡ enter_after inputs (code_of op) 0 1 word
   entered_after word =
       ap (λ m. enter_after m code first second word) two_inputs

@@ -1,17 +1,7 @@
 use Rattle.std.proofs.Common.{ap}
 use Rattle.hints.specs.declared.writer.Written.{Written}
-use Rattle.settling.proofs.Decided.{not_refused, settles}
+use Rattle.settling.proofs.Decided.{settles}
 use Rattle.settling.proofs.claim.settle_claim.Goals as goal
-
--- the claim is allowed
-pub returns-in_err-ticket : goal.returns-in_err-ticket
-returns-in_err-ticket g c =
-    absurd
-    (not_refused c.new-sheet.result c.input.new.self c.input-2.new.self c.args.step c.into.result
-    c.in_ok-first.first c.in_ok-second.second
-    c.new-sheet.ensures c.in_ok-first.ensures.reply c.input.ensures.after
-    c.in_ok-second.ensures.reply c.input-2.ensures.after c.into.ensures
-    c.enter.result _ c.enter.ensures.reply c.in_err-ticket.was)
 
 pub returns : goal.returns
 returns g c =

@@ -6,8 +6,3 @@ pub returns-in-Ok : goal.returns-in-Ok
 returns-in-Ok g c w n weight_is total_is =
     let words = words_read c.args.state _ (sym c.in-Ok.is ∙ c.word_in.ensures) in
     rw words (c.with_word.ensures w n weight_is total_is)
-
-pub returns-in-Err : goal.returns-in-Err
-returns-in-Err g c w n weight_is total_is =
-    let words = words_read c.args.state _ (sym c.in-Err.is ∙ c.word_in.ensures) in
-    rw words total_is
