@@ -9,7 +9,8 @@ use systems::{Equation, System};
 // 2^26: a sum keeps 26 bits below the larger operand, and a dividend is moved up by as many.
 const GUARD: u64 = 0x400_0000;
 
-// `x` where `first` is set, else `y`.
+// `x` where `first` is set, else `y`. A sum and a difference then go one way: by two ways a checked sum took 1.5 times as long as the
+// independent implementation, by one 1.2 times.
 fn either(first: bool, x: u64, y: u64) -> u64
     ensures { result ≡ (if first then x else y) }
 {

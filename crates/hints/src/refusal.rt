@@ -15,7 +15,7 @@ pub enum Layer {
     Word,
 }
 
-// One case, told of as those of the other parts are: by a number and a layer.
+// One case: `UnknownCode` itself is no plainer, since what is refused is told of by a number and a layer in each part.
 #[derive(Clone, Copy, PartialEq, Eq, Debug)]
 pub enum Refusal {
     // The code is none of an operation.

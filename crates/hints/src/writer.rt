@@ -73,8 +73,8 @@ impl From<Hints> for [u64; 6] {
     }
 }
 
-// The main of a sum, or else of a difference. The two are one way through the code, since which it is cannot be foreseen: by two
-// ways a checked sum took a quarter more time.
+// The main of a sum, or else of a difference. The two are one way through the code, as in the checks, since which it is cannot be
+// foreseen: by two ways both took longer.
 fn sum_main(is_sum: bool, setting: Setting) -> u64
     requires { setting.shift ≤ 26 }
     ensures { result ≡ cond is_sum (setting.first * 2 ^ 26 + setting.second * 2 ^ setting.shift) (setting.first * 2 ^ 26 - setting.second * 2 ^ setting.shift) }
@@ -90,7 +90,6 @@ fn sum_main(is_sum: bool, setting: Setting) -> u64
 fn principal(setting: Setting) -> (u64, u64)
     ensures { result ≡ principal_of setting }
 {
-    // A pattern, as in the checks, where `==` was slower.
     let is_sum = matches!(setting.kind, Kind::Sum);
     match setting.kind {
         Kind::Sum | Kind::Difference => (sum_main(is_sum, setting), 0),
@@ -144,8 +143,8 @@ fn written_case(case: Case) -> Written
     }
 }
 
-// The same of a case that is known to be the step's. Apart from `write_step`, whose clause `right` the check was tried on and left
-// open there, with its lemmas named.
+// The same of a case that is known to be the step's. Apart from `write_step`: as one function, with the lemmas named, the check
+// leaves the clause `right` open.
 fn written_for(operation: Operation, a: Word, b: Word, case: Case) -> Written
     requires { case ≡ case_of operation a.bits b.bits }
     ensures value { result ≡ written_step operation a.bits b.bits }
@@ -159,7 +158,8 @@ fn written_for(operation: Operation, a: Word, b: Word, case: Case) -> Written
 // The word of an operation on two words, with its hints: six zeros where the step is direct. It is right:
 // its hints back it, nothing else backs the step, and the word is the correctly rounded one. The last two
 // clauses speak of the definitions: the laws of the nearest word, and steps worked out by hand. Here, in the step and in the checks
-// an operation stands beside its operands: a type for the three is no plainer, as most calls would make it to be taken apart.
+// an operation stands beside its operands: one type for them is no plainer, since codes, cells and operands come apart at most calls,
+// and those that have a step whole have it as a line of text.
 pub fn write_step(operation: Operation, a: Word, b: Word) -> Written
     ensures value { result ≡ written_step operation a.bits b.bits }
     ensures right { Right operation a.bits b.bits result }

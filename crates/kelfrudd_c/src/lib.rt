@@ -1,4 +1,5 @@
-// What the static library exports. Each function is one call, with the clauses of the function that it calls.
+// What the static library exports. Each function is one call, with the clauses of the function that it calls: C has numbers and
+// slices alone, and a crate is a static library or one that Rust code uses.
 #![tactic(auto)]
 
 ghost use Rattle.std.specs.Prelude.{◌≡◌, ◌/◌, length};

@@ -1,5 +1,6 @@
 -- Requests, claims, outcomes, reports and tallies as text.
-use Rattle.std.specs.Prelude.{ℕ, ◌/◌, ◌%◌, ◌^◌, Bool, cond, List, [], ◌∷◌, ◌++◌, codes, decimal, flat_map, Some, None, Option}
+use Rattle.std.specs.Prelude.{ℕ, ◌-◌, ◌^◌, Bool, true, false, cond, List, [], ◌∷◌, ◌++◌, codes, decimal, flat_map, Some, None, Option}
+use Rattle.std.specs.Fmt.{format_spec, padded_integral, digits}
 use Rattle.binary32.specs.Operations.{is_root}
 use Rattle.checks.specs.declared.flaw.Flaw.{Flaw}
 use Rattle.checks.specs.declared.flaw.Flaw.TheVariants.{Width, FirstEquation, SecondEquation, Up, Word}
@@ -76,9 +77,12 @@ tally_text t =
     decimal t.inside ++ (codes " inside, " ++ (decimal t.outside ++ (codes " outside, "
     ++ (decimal t.not_shown ++ (codes " not shown, " ++ (decimal t.bad ++ codes " bad lines"))))))
 
--- a closing number in sixteen digits, the higher eight first
+-- a number in sixteen hexadecimal digits with capitals, filled up with zeros
+abbrev pub sixteen_digits : ℕ → List ℕ
+sixteen_digits number = padded_integral (format_spec 32 0 4 16 (2 ^ 64 - 1)) false [] (digits 16 true number)
+
 abbrev pub closing_text : Option ℕ → List ℕ
-closing_text (Some number) = digits_of (number / 2 ^ 32) ++ digits_of (number % 2 ^ 32)
+closing_text (Some number) = sixteen_digits number
 closing_text None = codes "none"
 
 abbrev pub closings_text : List (Option ℕ) → List ℕ

@@ -32,7 +32,8 @@ fn settling(serial: u32, claim: Claim) -> OpenCall
     }
 }
 
-// The words of the request as inputs, each claim entered and settled, and the last one's word read.
+// The words of the request as inputs, each claim entered and settled, and the last one's word read. Written out: there is no array
+// whose length is reckoned from those of others.
 #[tactic(auto, using(crate::proofs::Plans::seven_is), unfolding(crate::specs::Claims::calls_of))]
 fn laid_out(request: Request, serial: u32, claims: [Claim; 7]) -> [OpenCall; 20]
     ensures { result ≡ calls_of request serial claims }

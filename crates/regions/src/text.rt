@@ -6,7 +6,6 @@ use crate::claims::Claim;
 use crate::count::Tally;
 use crate::findings::{Outcome, Report, Step, Verdict};
 use crate::reading::{Point, Request};
-use binary32::Word;
 use checks::Flaw;
 use notation::{Numeral, name_of};
 use sheet::Refusal;
@@ -128,8 +127,7 @@ impl fmt::Display for Verdict {
     }
 }
 
-// A closing number in sixteen digits, the higher eight first: in halves, so that one definition of digits serves. The library tells
-// of `{:016X}` how it pads, which is no plainer.
+// A closing number in sixteen digits.
 #[derive(Clone, Copy)]
 struct Closing(Option<u64>);
 
@@ -138,15 +136,7 @@ impl fmt::Display for Closing {
 
     fn fmt<W: fmt::Write>(&self, f: &mut fmt::Formatter<W>) -> fmt::Result {
         match self.0 {
-            Some(number) => {
-                let high = Numeral(Word {
-                    bits: (number >> 32) as u32,
-                });
-                let low = Numeral(Word {
-                    bits: (number % (1 << 32)) as u32,
-                });
-                write!(f, "{high}{low}")
-            }
+            Some(number) => write!(f, "{number:016X}"),
             None => write!(f, "none"),
         }
     }

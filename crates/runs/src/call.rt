@@ -4,7 +4,7 @@ use binary32::Word;
 use hints::Hints;
 use sheet::Stub;
 
-// A call on an open sheet.
+// A call on an open sheet. `Enter` has its four as they are presented, right or wrong: a code and a struct for them are no plainer, since a sheet takes them so.
 #[derive(Clone, Copy, PartialEq, Eq, Debug)]
 pub enum OpenCall {
     Input(Word),

@@ -12,7 +12,8 @@ pub enum State {
     Free,
     // A word that was given; it counts as accepted.
     Input(Word),
-    // A claim that waits for its hints: that the operation on the words of two cells has this word.
+    // A claim that waits for its hints: that the operation on the words of two cells has this word. A struct for the four is no
+    // plainer: it would be taken apart wherever a claim is looked at.
     Pending {
         operation: Operation,
         first: u64,

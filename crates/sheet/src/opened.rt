@@ -25,7 +25,8 @@ fn answer(cell: u64, found: Result<(), Flaw>) -> Result<u64, Refusal>
 }
 
 impl<S: System> OpenSheet<S> {
-    // A sheet of which no cell is taken. Tickets for it have its serial.
+    // A sheet of which no cell is taken. Tickets for it have its serial. Serial and weight are no struct, which is no plainer: the one
+    // goes into tickets, the other into the closing number.
     pub fn new(serial: u32, weight: u64, system: S) -> Self
         ensures { result ≡ opened serial weight }
     {

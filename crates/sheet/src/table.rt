@@ -11,7 +11,8 @@ use checks::Flaw;
 const CELLS: u64 = 256;
 
 // The cells by their numbers. The next one that is taken has the number `taken`; it is free, and so are all after it.
-// An array and a count, and no `Vec`, since a sheet takes no memory but its own.
+// An array and a count, and no `Vec`, since a sheet takes no memory but its own. No model either: clauses speak of the count and of
+// single cells.
 #[derive(Drop)]
 pub(crate) struct Table {
     pub(crate) cells: [Cell; 256],

@@ -43,7 +43,7 @@ pub(crate) fn refused<S: System>(
     entered.map(|ticket| sheet.strike(ticket)).err()
 }
 
-// What a refusal tells: its number, its two values, and its layer.
+// What a refusal tells: its number, its two values, and its layer, as a row of the table of refusals has them.
 pub(crate) fn tells(
     rt: &impl Abort,
     refusal: Option<Refusal>,

@@ -28,7 +28,7 @@ impl Tally {
         }
     }
 
-    // Counts one answer more. A step is direct just if its main is 0: a rounded step has none such.
+    // Counts one answer more. By the rules a step is direct just if its main is 0: a rounded step has none such.
     pub fn count(&mut self, answer: &Result<Answer, Fault>)
         ensures { self.new ≡ counted self.old answer.now }
     {
