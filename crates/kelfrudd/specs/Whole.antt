@@ -1,5 +1,6 @@
 -- What is answered of a whole sheet.
-use Rattle.std.specs.Prelude.{ℕ, ◌/◌, ◌%◌, cond, List, [], ◌∷◌, length, Some, None, Ok, Err, Option, Result, ◌==◌, nat_lt, slice_set}
+use Rattle.std.specs.Prelude.{◌≡◌, ◌<◌, ℕ, ◌/◌, ◌%◌, cond, List, [], ◌∷◌, length, Some, None, Ok, Err, Option, Result, ◌==◌, nat_lt, slice_set}
+use Rattle.std.specs.Simd.{first_chunks}
 use Rattle.sheet.specs.Calls.{Model}
 use Rattle.kelfrudd.specs.SystemNames.{system_named, modulus_of}
 use Rattle.kelfrudd.specs.Listed.{concluded}
@@ -8,6 +9,14 @@ use Rattle.kelfrudd.specs.declared.system_name.SystemName.{SystemName}
 use Rattle.kelfrudd.specs.declared.listed.Stop.{Stop}
 use Rattle.kelfrudd.specs.declared.refusal.Refusal.{Refusal}
 use Rattle.kelfrudd.specs.declared.refusal.Refusal.TheVariants.{TooShort, NoWholeRows, UnknownSystem}
+
+-- rows of ten, one after the other, are these numbers to the last
+
+abbrev pub AreRowsOf : List ℕ → List (List ℕ) → Type 0
+AreRowsOf xs rows = (length xs % 10 ≡ 0) × (rows ≡ first_chunks 10 (length xs / 10) xs) × (length rows ≡ length xs / 10)
+
+abbrev pub HasNoWholeRows : List ℕ → Refusal → Type 0
+HasNoWholeRows xs r = (0 < length xs % 10) × (r ≡ NoWholeRows)
 
 abbrev pub concluded_by : Result SystemName Refusal → Result Model Stop → Option (Result ℕ Stop)
 concluded_by (Ok name) ran = Some (concluded (modulus_of name) ran)

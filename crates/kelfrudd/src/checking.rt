@@ -32,14 +32,14 @@ impl Claim<Word> {
     }
 }
 
-// The number of the hint that is outside its width, or 0.
-fn hint_named(found: Result<(), Refusal>) -> u64
-    ensures { result ≡ hint_named found }
+// Writes the number of the hint that is outside its width, or 0.
+fn name_hint(found: Result<(), Refusal>, place: &mut u64)
+    ensures { place.new ≡ hint_named found }
 {
-    match found {
+    *place = match found {
         Err(Refusal::Claim(Flaw::Width(hint))) => u64::from(u32::from(hint)),
         _ => 0,
-    }
+    };
 }
 
 // What is found in a claim that is handed over in numbers. The first place of `named` gets the hint.
@@ -68,7 +68,7 @@ fn check(
         },
     };
     let found = claim.check_in(name);
-    *place = hint_named(found);
+    name_hint(found, place);
     found
 }
 

@@ -1,7 +1,7 @@
 // A list of rows, put on a sheet one after the other.
 ghost use Rattle.std.specs.Prelude.{◌≡◌, length};
 ghost use Rattle.kelfrudd.specs.SystemNames.{modulus_of};
-ghost use Rattle.kelfrudd.specs.Listed.{ran_over, concluded};
+ghost use Rattle.kelfrudd.specs.Listed.{stop_for, ran_over, concluded};
 
 use crate::refusal::Refusal;
 use crate::row::take_row;
@@ -14,6 +14,18 @@ use systems::{Pair, System, Wrapping};
 pub(crate) struct Stop {
     pub(crate) passed: u64,
     pub(crate) refusal: Refusal,
+}
+
+impl Stop {
+    // A list that is stopped at the row with this index: the rows before it passed.
+    fn at(n: usize, refusal: Refusal) -> Stop
+        ensures { result ≡ stop_for n refusal }
+    {
+        Stop {
+            passed: n as u64,
+            refusal,
+        }
+    }
 }
 
 // Rows of ten numbers, and what a sheet for them is opened with.
@@ -32,10 +44,7 @@ impl Listed<'_> {
     {
         let mut sheet = OpenSheet::new(self.serial, self.weight, system);
         for (n, numbers) in self.rows.iter().enumerate() {
-            take_row(&mut sheet, *numbers).map_err(|refusal| Stop {
-                passed: n as u64,
-                refusal,
-            })?;
+            take_row(&mut sheet, *numbers).map_err(|refusal| Stop::at(n, refusal))?;
         }
         Ok(sheet.close().closing_number())
     }

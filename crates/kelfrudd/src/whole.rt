@@ -1,7 +1,7 @@
 // A whole sheet over numbers and slices.
-ghost use Rattle.std.specs.Prelude.{◌≡◌, ◌∷◌, [], ◌/◌, length};
+ghost use Rattle.std.specs.Prelude.{◌≡◌, ◌∷◌, [], ◌/◌, length, MatchResult};
 ghost use Rattle.kelfrudd.specs.Listed.{ran_to};
-ghost use Rattle.kelfrudd.specs.Whole.{concluded_in, outcome_told, sheet_reply, sheet_number, sheet_places};
+ghost use Rattle.kelfrudd.specs.Whole.{AreRowsOf, HasNoWholeRows, concluded_in, outcome_told, sheet_reply, sheet_number, sheet_places};
 
 use crate::listed::{Listed, Stop};
 use crate::refusal::{Refusal, number_told};
@@ -26,6 +26,17 @@ fn five_of(outcome: Result<u64, Stop>, rows: u64) -> [u64; 5]
     }
 }
 
+// The numbers as rows of ten, where none of them is left over.
+fn rows_of(numbers: &[u64]) -> Result<&[[u64; 10]], Refusal>
+    ensures { MatchResult result (λ rows. AreRowsOf numbers.now rows.now) (λ r. HasNoWholeRows numbers.now r) }
+{
+    let (rows, rest) = numbers.as_chunks::<10>();
+    if !rest.is_empty() {
+        return Err(Refusal::NoWholeRows);
+    }
+    Ok(rows)
+}
+
 // What stops a list that is handed over in numbers. The first five places of `told` say how it went.
 fn check(
     system: u32,
@@ -38,10 +49,7 @@ fn check(
     ensures after { told.new ≡ sheet_places told.old (length numbers.now) (concluded_in system (ran_to serial weight numbers.now (length numbers.now / 10))) }
 {
     let places = told.first_chunk_mut::<5>().ok_or(Refusal::TooShort)?;
-    let (rows, rest) = numbers.as_chunks::<10>();
-    if !rest.is_empty() {
-        return Err(Refusal::NoWholeRows);
-    }
+    let rows = rows_of(numbers)?;
     let name = SystemName::try_from(system)?;
     let listed = Listed {
         serial,

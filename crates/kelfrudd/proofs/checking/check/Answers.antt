@@ -16,5 +16,5 @@ returns c =
     let hints : hints_in c.args.hints.now ≡ c.from.result = hints_are c.args.hints.now _ c.from.result (search rules) c.from.ensures in
     record {
       reply = rw hints (c.check_in-found.ensures ∙ sym (checked_reply_is named count c.args.system name _ place six known));
-      after = rw (hints, c.hint_named.ensures, c.check_in-found.ensures) (sym (checked_places_are named count c.args.system name _ place six known));
+      after = rw (hints, c.name_hint.ensures, c.check_in-found.ensures) (sym (checked_places_are named count c.args.system name _ place six known));
     }
