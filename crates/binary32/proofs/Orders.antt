@@ -1,13 +1,8 @@
 -- What the order of two words says of a comparison.
-use Rattle.std.specs.Prelude.{Some, None}
-use Rattle.std.specs.Ordering.{nat_cmp, is_eq, is_lt, is_le, is_some_and}
-use Rattle.std.specs.declared.cmp.Ordering.{Ordering}
-use Rattle.std.proofs.Common.{◌≡◌, ℕ, Bool, true, false, cond, not, ◌&&◌, ◌||◌, eqb, ltb, refl, inl, inr, arith}
+use Rattle.std.specs.Ordering.{nat_cmp, is_eq, is_lt, is_le}
+use Rattle.std.proofs.Common.{◌≡◌, ℕ, false, ◌||◌, eqb, ltb, refl, inl, inr, arith}
 use Rattle.std.proofs.lemmas.Bool.{lt-ltb, le-ltb, eq-eqb, ne_eqb, cases_order}
-use Rattle.binary32.specs.Sizes.{level}
-use Rattle.binary32.specs.Words.{class_of, is_nan}
-use Rattle.binary32.specs.Steps.{line, order_of, answer_of, comparison}
-use Rattle.binary32.specs.declared.step.Step.TheVariants.{Direct}
+use Rattle.binary32.specs.Words.{is_nan}
 use Rattle.binary32.specs.declared.word.Class.{Class}
 use Rattle.binary32.specs.declared.word.Class.TheVariants.{Nan, Infinity, Zero, Finite}
 
@@ -42,15 +37,3 @@ cmp_le m n =
       | inr (inl h) ↦ rw (lt-ltb m n h)
       | inr (inr h) ↦ rw (le-ltb m n (omega arith), ne_eqb m n (omega arith))
     ]
-
-module _ (E : Ordering → Bool) (o : Ordering) where
-  decided : (apart holds : Bool) → E o ≡ holds
-      → answer_of (is_some_and E (cond apart None (Some o))) ≡ line (not apart && holds) 0x3f800000 (Direct (record { bits = 0 }))
-  decided true holds e = refl
-  decided false true e = rw e refl
-  decided false false e = rw e refl
-
--- A comparison that asks for some of the orders holds just where the words stand in one of them.
-pub answered : (a b : ℕ) (E : Ordering → Bool) (holds : Bool) → E (nat_cmp (level a) (level b)) ≡ holds
-    → answer_of (is_some_and E (order_of a b)) ≡ comparison (class_of a) (class_of b) holds
-answered a b E holds e = decided E (nat_cmp (level a) (level b)) (is_nan (class_of a) || is_nan (class_of b)) holds e

@@ -149,6 +149,7 @@ fn answer(holds: bool) -> Step
 
 impl Operation {
     // The step on two words. A root takes only the first.
+    #[tactic(auto, using(crate::proofs::Orders::cmp_eq, crate::proofs::Orders::cmp_lt, crate::proofs::Orders::cmp_le))]
     pub fn apply(self, a: Word, b: Word) -> Step
         ensures { result ≡ step_of self a.bits b.bits }
     {

@@ -114,6 +114,7 @@ impl Word {
     }
 
     // What the word stands for. The normal form of a finite nonzero word has its size.
+    #[tactic(auto, using(crate::proofs::Normal::class_stands))]
     pub fn class(self) -> Class
         ensures value { result ≡ class_of self.bits }
         ensures sized { Sized result (size (magnitude_of self.bits)) }

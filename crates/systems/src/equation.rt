@@ -48,6 +48,7 @@ impl Equation {
     }
 
     // Whether both sides have the same remainder. Where both are below 2^56 that is whether they are equal, in every system.
+    #[tactic(auto, using(crate::proofs::Remainders::told_apart))]
     pub fn holds<S: System>(self, system: &S) -> bool
         ensures remainders { result ≡ (left_side self % S.modulus == right_side self % S.modulus) }
         ensures numbers { left_side self < 2 ^ 56 → right_side self < 2 ^ 56 → result ≡ balanced self }
