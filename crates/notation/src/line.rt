@@ -53,11 +53,18 @@ fn operands(mut reader: Reader, operation: Operation) -> Result<Request, Fault>
     })
 }
 
+// The law of lines: one that a step is written as is read as that step. There is nothing to do. It is a function, so that
+// `read_step` has the law at hand, and the check finds the rest of that proof in its body.
+fn reads_back(line: &[u8])
+    ensures { ReadsBack line.now (read_step line.now) }
+{}
+
 // The step of a line, or what is wrong with the line. A written step is read back.
 pub fn read_step(line: &[u8]) -> Result<Request, Fault>
     ensures value { result ≡ read_step line.now }
     ensures read { ReadsBack line.now result }
 {
+    reads_back(line);
     let mut reader = Reader::new(line);
     let operation = operation_named(reader.name()).ok_or(Fault::UnknownOperation)?;
     operands(reader, operation)

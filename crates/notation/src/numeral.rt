@@ -1,5 +1,5 @@
 // Words as eight hexadecimal digits with capitals.
-ghost use Rattle.std.specs.Prelude.{Some, ◌≡◌, ◌<◌, ◌≤◌, map, length, take, Ok, MatchResult};
+ghost use Rattle.std.specs.Prelude.{Some, ◌≡◌, ◌-◌, ◌*◌, ◌/◌, ◌%◌, ◌^◌, ◌<◌, ◌≤◌, map, length, take, Ok, MatchResult};
 ghost use Rattle.std.specs.Int.Digits.{number_from_digits};
 ghost use Rattle.std.specs.List.{prefix_len};
 ghost use Rattle.notation.specs.Numerals.{digit_of, code_of, is_digit, value_of, word_of, places_of, digits_of};
@@ -47,12 +47,20 @@ pub fn read_word(text: &[u8]) -> Result<Word, usize>
     }
 }
 
+// The digit at one of the eight places of a word, the highest first.
+fn digit_at(word: Word, place: usize) -> u8
+    requires { place < 8 }
+    ensures { result ≡ code_of (word.bits / 2 ^ (28 - 4 * place) % 16) }
+{
+    capital((word.bits >> (28 - 4 * place)) % 16)
+}
+
 // The eight digits of a word, from which it is read again.
 pub fn digits(word: Word) -> [u8; 8]
     ensures value { result ≡ digits_of word.bits }
     ensures read { word_of result ≡ Ok word }
 {
-    array::from_fn(|i| capital((word.bits >> (28 - 4 * i)) % 16))
+    array::from_fn(|place| digit_at(word, place))
 }
 
 // A word as its eight digits. By `digits`, so that what is printed is what is read back: the library tells of `{:08X}` how it pads,

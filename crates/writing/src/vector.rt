@@ -1,7 +1,7 @@
 // Vectors: the word that a step should have, as eight digits, then a space and the step.
 ghost use Rattle.std.specs.Prelude.{◌≡◌};
 ghost use Rattle.std.specs.Result.{result_ok};
-ghost use Rattle.writing.specs.Verdicts.{vector_of};
+ghost use Rattle.writing.specs.Verdicts.{expecting, vector_of};
 
 use binary32::Word;
 use notation::{Fault, Reader, Request, read_step};
@@ -13,6 +13,14 @@ pub struct Vector {
     pub request: Request,
 }
 
+// The vector that expects this word of a step, or what is wrong with the step.
+fn expecting(expected: Word, step: Result<Request, Fault>) -> Result<Vector, Fault>
+    ensures { result_ok result ≡ expecting expected step }
+{
+    let request = step?;
+    Ok(Vector { expected, request })
+}
+
 // The vector of a line, or what is wrong with the line.
 fn parsed(line: &[u8]) -> Result<Vector, Fault>
     ensures { result_ok result ≡ vector_of line.now }
@@ -20,8 +28,7 @@ fn parsed(line: &[u8]) -> Result<Vector, Fault>
     let mut reader = Reader::new(line);
     let expected = reader.word()?;
     reader.space()?;
-    let request = read_step(reader.rest())?;
-    Ok(Vector { expected, request })
+    expecting(expected, read_step(reader.rest()))
 }
 
 // The vector of a line, if the line is one.

@@ -1,5 +1,5 @@
 -- After the word and a space stands the step.
-use Rattle.std.proofs.Common.{◌≡◌, ℕ, Bool, true, false, cond, List, drop, is_ok, None, Ok, Err, Result, sym, refl, ap, ◌∙◌, rules}
+use Rattle.std.proofs.Common.{◌≡◌, ℕ, Bool, true, false, cond, List, drop, is_ok, None, Ok, Err, Result, sym, refl, ap, ◌∙◌}
 use Rattle.binary32.specs.declared.word.Word.{Word}
 use Rattle.notation.specs.Lines.{placed, read_step}
 use Rattle.notation.specs.Numerals.{word_of}
@@ -34,12 +34,7 @@ module _ (line : List ℕ) (start after_word_place after_space : Place) (word : 
       ap (expecting word) (is_step ∙ ap read_step (is_text ∙ ap rest_of at_step))
       ∙ sym (ap (after_word line) word_is ∙ ap (λ b. cond b (expecting word (read_step (drop 9 line))) None) space_is)
 
-pub returns-in_err-request : goal.returns-in_err-request
-returns-in_err-request c =
-    let vector = vector_is c.args.line.now _ _ _ _ c.new-reader.ensures c.in_ok-expected.ensures.value c.in_ok-expected.ensures.after (ap is_ok c.in_ok-space.ensures.value) c.in_ok-space.ensures.after _ _ c.rest.ensures c.read_step.ensures.value in
-    search (rules, vector)
-
 pub returns : goal.returns
 returns c =
-    let vector = vector_is c.args.line.now _ _ _ _ c.new-reader.ensures c.in_ok-expected.ensures.value c.in_ok-expected.ensures.after (ap is_ok c.in_ok-space.ensures.value) c.in_ok-space.ensures.after _ _ c.rest.ensures c.read_step.ensures.value in
-    search (rules, vector)
+    c.expecting.ensures
+    ∙ vector_is c.args.line.now _ _ _ _ c.new-reader.ensures c.in_ok-expected.ensures.value c.in_ok-expected.ensures.after (ap is_ok c.in_ok-space.ensures.value) c.in_ok-space.ensures.after _ _ c.rest.ensures c.read_step.ensures.value
