@@ -1,5 +1,5 @@
 // One list of calls, met by a sheet over each of two systems.
-ghost use Rattle.std.specs.Prelude.{◌≡◌, ◌+◌, ◌≤◌, ◌++◌, length, IfOk, vec_len, vec_capacity};
+ghost use Rattle.std.specs.Prelude.{◌≡◌, ◌+◌, ◌≤◌, ◌++◌, length, IfOk, Ok, vec_len, vec_capacity};
 ghost use Rattle.std.specs.Option.{option_map};
 ghost use Rattle.sheet.specs.Calls.{opened as opened_with};
 ghost use Rattle.runs.specs.Met.{replies, after_each, answers_from, after_all, later_answers};
@@ -48,6 +48,13 @@ fn meet_all<M: Meets>(sheet: &mut M, calls: &[M::Call], answers: &mut Vec<M::Ans
     }
 }
 
+// The sheet that is opened for the calls of a run.
+fn opened_for<S: System>(system: S, run: Run) -> Attended<S>
+    ensures { result.sheet ≡ opened_with run.entry.serial run.entry.weight }
+{
+    Attended::new(run.serial, run.weight, system)
+}
+
 // The calls on a sheet that is opened for them, into answers that have room for all.
 fn answers_on<S: System>(system: S, run: Run, room: Answers) -> Answers
     requires { Roomy room (length run.opened.now) (count_of (option_map (λ x. x.now) run.closed)) }
@@ -58,12 +65,31 @@ fn answers_on<S: System>(system: S, run: Run, room: Answers) -> Answers
         mut opened,
         mut closed,
     } = room;
-    let mut sheet = Attended::new(run.serial, run.weight, system);
+    let mut sheet = opened_for(system, run);
     meet_all(&mut sheet, run.opened, &mut opened);
     if let Some(calls) = run.closed {
         meet_all(&mut sheet.close(), calls, &mut closed);
     }
     Answers { opened, closed }
+}
+
+// The calls on a sheet over each system, once there is room for the answers. Nothing can fail from here on, and whatever the calls
+// are, the answers obey the law of runs.
+fn answers_of_both<S: System, T: System>(
+    first: S,
+    second: T,
+    run: Run,
+    room: Answers,
+    other: Answers,
+) -> Replayed
+    requires room { Roomy room (length run.opened.now) (count_of (option_map (λ x. x.now) run.closed)) }
+    requires other { Roomy other (length run.opened.now) (count_of (option_map (λ x. x.now) run.closed)) }
+    ensures { LawOfRuns run.entry.serial run.entry.weight S.modulus T.modulus run.entry.opened.now (option_map (λ x. x.now) run.entry.closed) (Ok result) }
+{
+    Replayed {
+        first: answers_on(first, run, room),
+        second: answers_on(second, run, other),
+    }
 }
 
 fn room_for(heap: Global, run: Run) -> Result<Answers, AllocError>
@@ -87,8 +113,5 @@ pub fn replay<S: System, T: System>(
 {
     let room = room_for(heap, run)?;
     let other = room_for(heap, run)?;
-    Ok(Replayed {
-        first: answers_on(first, run, room),
-        second: answers_on(second, run, other),
-    })
+    Ok(answers_of_both(first, second, run, room, other))
 }

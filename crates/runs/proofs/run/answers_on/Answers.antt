@@ -13,7 +13,7 @@ returns-clause-closed g c =
     let m = opened x.run.serial x.run.weight in
     let modulus = g.S.System.modulus in
     let after : c.meet_all.new.sheet.sheet ≡ after_all m calls
-    = c.meet_all.ensures.after ∙ ap (λ k. after_all k calls) c.new-sheet.ensures in
+    = c.meet_all.ensures.after ∙ ap (λ k. after_all k calls) c.opened_for-sheet.ensures in
     elim c.match-run.branch [
       | in-Some w ↦
           ap vec_items w.closed-is
