@@ -126,6 +126,15 @@ fn closing(answers: &[ClosedAnswer]) -> Option<u64>
     }
 }
 
+// Whether both sheets gave the same answers while they were open.
+#[tactic(auto, using(crate::proofs::Answers::same))]
+fn agree(replayed: &Replayed) -> bool
+    ensures { Decides result (Agreed replayed.now) }
+{
+    let Replayed { first, second } = replayed;
+    first.opened == second.opened
+}
+
 // What the sheets' answers to the calls of a request say of it. Outcomes and verdict are by those of the first sheet.
 pub fn report_on(request: Request, replayed: &Replayed) -> Report
     ensures value { result ≡ report_of request replayed.now result.agree }
@@ -135,7 +144,7 @@ pub fn report_on(request: Request, replayed: &Replayed) -> Report
     Report {
         request,
         steps: steps(claims_of(request), &first.opened),
-        agree: first.opened == second.opened,
+        agree: agree(replayed),
         verdict: verdict_on(answer_at(&first.opened, 19)),
         closings: [closing(&first.closed), closing(&second.closed)],
     }
