@@ -1,5 +1,5 @@
 // The whole square root of a radicand, and what it leaves over.
-ghost use Rattle.std.specs.Prelude.{◌≡◌, ◌/◌, ◌^◌, ◌<◌, ◌≤◌};
+ghost use Rattle.std.specs.Prelude.{◌≡◌, ◌/◌, ◌^◌, ◌<◌, ◌≤◌, IfSome};
 ghost use Rattle.hints.specs.Scheme.{root_with_rest};
 
 // A number whose square root has 26 bits.
@@ -31,17 +31,32 @@ impl Radicand {
         self.nearer_root(self.nearer_root(line))
     }
 
-    // A guess that is the root is known by what it leaves over, so nothing rests on how good guesses are.
+    // A guess with what it leaves over, if it is the root. That is known by what it leaves over, so nothing rests on how good guesses are.
+    #[tactic(auto, using(crate::proofs::Roots::root_found))]
+    fn root_by(self, guess: u64) -> Option<(u64, u64)>
+        ensures { IfSome result (λ found. found ≡ root_with_rest self.value) }
+    {
+        if guess < 0x400_0000 && guess * guess <= self.value {
+            let rest = self.value - guess * guess;
+            if rest <= 2 * guess {
+                return Some((guess, rest));
+            }
+        }
+        None
+    }
+
+    // Newton's rule comes from above: tried over all radicands of steps, a guess is the root or else one above it. That is not proved,
+    // so the library's root stands behind both.
     #[tactic(auto, using(crate::proofs::Roots::root_found))]
     pub(crate) fn root(self) -> (u64, u64)
         ensures { result ≡ root_with_rest self.value }
     {
         let guess = self.guessed_root();
-        if guess < 0x400_0000 && guess * guess <= self.value {
-            let rest = self.value - guess * guess;
-            if rest <= 2 * guess {
-                return (guess, rest);
-            }
+        if let Some(found) = self.root_by(guess) {
+            return found;
+        }
+        if let Some(found) = self.root_by(guess.saturating_sub(1)) {
+            return found;
         }
         let root = self.value.isqrt();
         (root, self.value - root * root)
