@@ -72,7 +72,7 @@ main_within Root first second shift low high second_high suits =
     record { some = omega (arith, root_low n _ (omega arith) is); width = root_high n _ (omega arith) is }
 
 -- no width is above 51
-width_at_most : (k : Kind) → main_width k ≤ 51
+pub width_at_most : (k : Kind) → main_width k ≤ 51
 width_at_most Sum = omega arith
 width_at_most Difference = omega arith
 width_at_most Product = omega arith

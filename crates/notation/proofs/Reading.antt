@@ -13,7 +13,7 @@ use Rattle.notation.specs.Numerals.{is_digit, value_of, word_of}
 pub value_small : (code : ℕ) → value_of code < 16
 value_small code = grind (arith, nat_tests)
 
-values_small : (text : List ℕ) → AllBelowBase 16 (map value_of text)
+pub values_small : (text : List ℕ) → AllBelowBase 16 (map value_of text)
 values_small [] = tt
 values_small (code ∷ text) = (value_small code, values_small text)
 
