@@ -1,4 +1,5 @@
 pub mod Lines
 pub mod Made
+pub mod Named
 pub mod Reading
 pub mod Written

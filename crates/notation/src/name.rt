@@ -1,7 +1,7 @@
 // The names of the operations.
 ghost use Rattle.std.specs.Prelude.{◌≡◌, true, IfSome, Some};
 ghost use Rattle.std.specs.Str.{bytes_eq};
-ghost use Rattle.notation.specs.Names.{name_of, operation_named};
+ghost use Rattle.notation.specs.Names.{name_of, with_name, operation_named};
 
 use binary32::Operation;
 
@@ -30,13 +30,21 @@ fn is_named(name: &[u8], operation: Operation) -> bool
     name == name_of(operation).as_bytes()
 }
 
+// The first of these operations that has the name. The name is then that operation's.
+fn first_named(name: &[u8], operations: &[Operation]) -> Option<Operation>
+    ensures value { result ≡ with_name name.now operations.now }
+    ensures name { IfSome result (λ o. name_of o ≡ name.now) }
+{
+    operations
+        .iter()
+        .copied()
+        .find(|operation| is_named(name, *operation))
+}
+
 // The operation of a name, if there is one. The name is then that operation's.
 pub fn operation_named(name: &[u8]) -> Option<Operation>
     ensures value { result ≡ operation_named name.now }
     ensures name { IfSome result (λ o. name_of o ≡ name.now) }
 {
-    Operation::ALL
-        .iter()
-        .copied()
-        .find(|operation| is_named(name, *operation))
+    first_named(name, &Operation::ALL)
 }

@@ -55,12 +55,20 @@ fn digit_at(word: Word, place: usize) -> u8
     capital((word.bits >> (28 - 4 * place)) % 16)
 }
 
+// The digits at the eight places.
+fn digits_at_places(word: Word) -> [u8; 8]
+    ensures { result ≡ digits_of word.bits }
+{
+    array::from_fn(|place| digit_at(word, place))
+}
+
 // The eight digits of a word, from which it is read again.
+#[tactic(auto, using(crate::proofs::Written::word_digits))]
 pub fn digits(word: Word) -> [u8; 8]
     ensures value { result ≡ digits_of word.bits }
     ensures read { word_of result ≡ Ok word }
 {
-    array::from_fn(|place| digit_at(word, place))
+    digits_at_places(word)
 }
 
 // A word as its eight digits. By `digits`, so that what is printed is what is read back: the library tells of `{:08X}` how it pads,
